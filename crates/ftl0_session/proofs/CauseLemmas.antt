@@ -1,5 +1,5 @@
 -- The causes of code 3 in what is replied.
-use Rattle.std.proofs.Common.{◌≡◌, ℕ, ◌+◌, ◌*◌, List, [], ◌∷◌, Bool, true, false, true≢false, refl, sym, ap, ◌∙◌, arith, append-nil, eq-eqb, inl, ◌==◌}
+use Rattle.std.proofs.Common.{◌≡◌, ℕ, ◌+◌, ◌*◌, List, [], ◌∷◌, Bool, true, false, true≢false, refl, sym, ap, ◌∙◌, arith, append-nil, eq-eqb, ◌==◌}
 use Rattle.std.specs.List.{AllByRecursion}
 use Rattle.disk_model.specs.declared.disk.Disk.{Ghosts}
 use Rattle.ftl0_packets.specs.Items.{texts}
@@ -52,10 +52,6 @@ module _ {D : Type 0} (g : Ghosts D) (disk : D) (fails : Bool) where
     told = λ failed. absurd (true≢false (sym failed ∙ fine));
     causes = ((λ three. absurd (true≢false (sym (eq-eqb code 3 three) ∙ other))), tt);
   }
-
-  -- a refusal with code 3, where a read failed
-  pub says-failed : (replies : List ℕ) → fails ≡ true → replies ≡ texts (dl_error_resp 3 ∷ []) → Says g disk fails replies
-  says-failed replies failed text = record { said = dl_error_resp 3 ∷ []; text = text; told = λ again. (dl_error_resp 3, refl, refl); causes = ((λ three. inl failed), tt) }
 
 -- ---- the texts of what is sent
 

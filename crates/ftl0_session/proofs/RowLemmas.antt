@@ -4,7 +4,6 @@ use Rattle.std.specs.Prelude.{Ok, Err}
 use Rattle.px_base.specs.CallSign.{CallSign}
 use Rattle.ftl0_packets.specs.Items.{kind_of_item}
 use Rattle.ftl0_packets.specs.Layout.{Item, PacketValue}
-use Rattle.ftl0_packets.specs.declared.packet.Malformed.{Malformed}
 use Rattle.ftl0_session.specs.Lists.Lists.{CallerList}
 use Rattle.file_store.specs.Store.{Store}
 use Rattle.file_store.specs.State.{StoreState}
@@ -82,9 +81,6 @@ download-free caller store lists download.ready packet fails = refl
 download-free caller store lists (download.sending number place last) packet fails = refl
 download-free caller store lists download.waiting packet fails = refl
 download-free caller store lists (download.listing dues) packet fails = refl
-
-pub download-malformed : (caller : CallSign) (store : Store) (lists : List CallerList) (state : State) (malformed : Malformed) (fails : Bool) → download_row caller store lists state (Err malformed) fails ≡ None
-download-malformed caller store lists state malformed fails = refl
 
 -- while a file is received, or the end of one is waited for, there is none
 pub download-busy : (caller : CallSign) (store : Store) (files : StoreState) (lists : List CallerList) (here : Phase) (part : DownloadState) (packet : PacketValue) (fails : Bool) → (here ≡ phase.Command → ⊥)

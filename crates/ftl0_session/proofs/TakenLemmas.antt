@@ -1,9 +1,8 @@
 -- What a packet does whose row has no command of the store: one of downloading, or error 1.
 use Rattle.std.proofs.Common.{◌≡◌, ℕ, List, [], ◌∷◌, refl, ap, sym, ◌∙◌, subst, append-nil, arith, true≢false, Bool, true, false, Option, None, Some}
-use Rattle.std.specs.Prelude.{⊤, Result, Ok, IsErrOf, IsSomeAnd, IsTrue, is_some}
+use Rattle.std.specs.Prelude.{⊤, Result, Ok, IsErr, IsSomeAnd, IsTrue, is_some}
 use Rattle.disk_model.specs.declared.disk.Disk.{Ghosts}
-use Rattle.disk_model.specs.declared.halt.Halt.{Halt}
-use Rattle.disk_model.specs.declared.halt.Halt.TheVariants as stop
+use Rattle.disk_model.specs.declared.disk.DiskFault.{DiskFault}
 use Rattle.ftl0_packets.specs.Items.{kind_of_item, texts}
 use Rattle.ftl0_packets.specs.Layout.{Item, PacketValue, dl_error_resp, packet_text}
 use Rattle.ftl0_session.specs.Lists.Lists.{CallerList}
@@ -31,7 +30,7 @@ use Rattle.ftl0_session.proofs.CauseLemmas.{says-one}
 use Rattle.ftl0_session.proofs.RowLemmas.{download-command, download_part-is, row-download, row-error}
 
 -- the answer that all was done
-abbrev answered : Result ⊤ Halt
+abbrev answered : Result ⊤ DiskFault
 answered = Ok tt
 
 -- a packet that was taken had a row, and that was made
@@ -110,7 +109,7 @@ module _ {D : Type 0} (g : Ghosts D) where
       → new.uploads ≡ old.uploads → IsReady g store disk → MayTake g store disk_now lists_now new
       → Taken g (packet_of (caller_of old) moment item) old new (working_on store lists disk) (working_on store lists_now disk_now) replies answered
   still moment item old new store lists lists_now disk disk_now replies fails reads gives any says same ready may =
-      let fine : ¬ IsErrOf answered stop.Disk = λ e. cc e in
+      let fine : ¬ IsErr answered = λ e. cc e in
       let does : DoesAmongReads g ⊥ (one_if fails) store store disk disk_now [] = reads-only g fails store disk disk_now reads ready in
       record {
         takes = record {
@@ -126,7 +125,7 @@ module _ {D : Type 0} (g : Ghosts D) where
               );
           on_disk = λ known. among-at g ⊥ (one_if fails) store store disk disk_now [] _ (sym (gives known).none) does;
           reads = does.reads;
-          puts = puts-among-same g ⊥ (IsErrOf answered stop.Disk) disk disk_now (λ never. absurd never) fine does.puts;
+          puts = puts-among-same g ⊥ (IsErr answered) disk disk_now (λ never. absurd never) fine does.puts;
           anyway = λ row looks.
               let given = any row looks in (
                 given.0,

@@ -1,15 +1,14 @@
 -- What a packet of uploading does, while the session does nothing of downloading.
 use Rattle.std.proofs.Common.{◌≡◌, ℕ, List, [], ◌∷◌, refl, ap, sym, ◌∙◌, subst, Bool, true, false, Some}
-use Rattle.std.specs.Prelude.{⊤, Result, Ok, Err, IsErrOf, IsTrue}
+use Rattle.std.specs.Prelude.{⊤, Result, Ok, Err, IsErr}
 use Rattle.disk_model.specs.AtDisk.{AtDisk, at}
 use Rattle.disk_model.specs.declared.disk.Disk.{Ghosts}
-use Rattle.disk_model.specs.declared.halt.Halt.{Halt}
-use Rattle.disk_model.specs.declared.halt.Halt.TheVariants as stop
+use Rattle.disk_model.specs.declared.disk.DiskFault.{DiskFault}
 use Rattle.ftl0_packets.specs.Items.{kind_of_item, texts}
 use Rattle.ftl0_packets.specs.Layout.{Item, PacketValue, ul_nak_resp}
 use Rattle.ftl0_session.specs.Lists.Lists.{CallerList}
 use Rattle.file_store.specs.Calls.{ChangesReads}
-use Rattle.file_store.proofs.Offered.{among-at, reads-none}
+use Rattle.file_store.proofs.Offered.{among-at}
 use Rattle.file_store.specs.Command.{Command, DoesAll, after_all}
 use Rattle.file_store.specs.OnDisk.{outlined_all}
 use Rattle.file_store.specs.EntriesKept.{KeepsComplete}
@@ -25,7 +24,7 @@ use Rattle.ftl0_session.specs.Uploads.Taking.{IsStopped as IsUploadStopped, Look
 use Rattle.ftl0_session.specs.Downloads.Needs.{AreComplete}
 use Rattle.ftl0_session.specs.Downloads.Table.{ready}
 use Rattle.ftl0_session.specs.SessionState.{session_of, working_on}
-use Rattle.ftl0_session.specs.Table.{Row, by_upload, state_by, takes_memory, upload_part}
+use Rattle.ftl0_session.specs.Table.{Row, by_upload, state_by, upload_part}
 use Rattle.ftl0_session.specs.Taking.{Answers, IsStopped, LooksAtNone, MakesAnyway, PutsRow, Taken, TakesPacket, TellsRead, Working, packet_row, row_over}
 use Rattle.ftl0_session.proofs.uploads.Rows.{by_read-some}
 use Rattle.ftl0_session.proofs.RowLemmas.{row-upload, upload-free, upload_part-free}
@@ -67,10 +66,9 @@ module _ {D : Type 0} (g : Ghosts D) (packet : CallerPacket) (lists : List Calle
   row-is : (fails : Bool) (given : upload.Row) → row_of packet files before.it.state fails ≡ Some given → packet_row g packet was fails ≡ by_upload lists given
   row-is fails given same = row-over files fails given same
 
-  stopped-by : (fails : Bool) (result : Result ⊤ Halt) → IsUploadStopped fails before now replies result → IsStopped fails was is replies result
+  stopped-by : (fails : Bool) (result : Result ⊤ DiskFault) → IsUploadStopped fails before now replies result → IsStopped fails was is replies result
   stopped-by fails (Ok done) stopped = tt
-  stopped-by fails (Err stop.OutOfMemory) stopped = (stopped.0, ap (whole lists) stopped.1, stopped.2)
-  stopped-by fails (Err stop.Disk) stopped = (
+  stopped-by fails (Err fault) stopped = (
     stopped.0,
     ap (λ (p : upload.State). state_by p ready) stopped.1,
     refl,
@@ -78,10 +76,10 @@ module _ {D : Type 0} (g : Ghosts D) (packet : CallerPacket) (lists : List Calle
   )
 
   module _ (fails : Bool) (given : upload.Row) (same : row_of packet files before.it.state fails ≡ Some given) where
-    told-by : (result : Result ⊤ Halt) → MakesRow g fails packet.item given before now replies result → fails ≡ true → TellsRead (packet_row g packet was fails).replies
+    told-by : (result : Result ⊤ DiskFault) → MakesRow g fails given before now replies result → fails ≡ true → TellsRead (packet_row g packet was fails).replies
     told-by result makes failed = (ul_nak_resp 3, ap (λ (r : Row). r.replies) (row-is fails given same) ∙ makes.told failed, refl)
 
-    answers-by : (result : Result ⊤ Halt) → MakesRow g fails packet.item given before now replies result → Answers g packet.item was (packet_row g packet was fails) is replies result
+    answers-by : (result : Result ⊤ DiskFault) → MakesRow g fails given before now replies result → Answers g was (packet_row g packet was fails) is replies result
     answers-by (Ok done) makes =
         let row = row-is fails given same in (
           subst (λ (cs : List Command). DoesAll files (store_on g now.it.store now.disk) cs) (sym (ap (λ (r : Row). r.commands) row)) makes.answers.0,
@@ -89,16 +87,12 @@ module _ {D : Type 0} (g : Ghosts D) (packet : CallerPacket) (lists : List Calle
           ap (λ (p : upload.State). state_by p ready) makes.answers.1 ∙ sym (ap (λ (r : Row). r.state) row),
           makes.answers.2 ∙ sym (ap (λ (r : Row). texts r.replies) row),
         )
-    answers-by (Err stop.OutOfMemory) makes =
-        subst (λ (r : Row). IsTrue (takes_memory packet.item r.state)) (sym (row-is fails given same))
-        (subst (λ (p : upload.State). IsTrue (upload.takes_memory packet.item p)) (sym (upload_part-free given.state)) makes.answers)
-    answers-by (Err stop.Disk) makes = tt
+    answers-by (Err fault) makes = tt
 
-    puts-by : (result : Result ⊤ Halt) → MakesRow g fails packet.item given before now replies result → PutsRow g fails (packet_row g packet was fails) was is result
+    puts-by : (result : Result ⊤ DiskFault) → MakesRow g fails given before now replies result → PutsRow g fails (packet_row g packet was fails) was is result
     puts-by (Ok done) makes =
         among-at g ⊥ (one_if fails) before.it.store now.it.store before.disk now.disk given.commands (packet_row g packet was fails).commands (sym (ap (λ (r : Row). r.commands) (row-is fails given same))) makes.on_disk
-    puts-by (Err stop.OutOfMemory) makes = tt
-    puts-by (Err stop.Disk) makes =
+    puts-by (Err fault) makes =
         among-at g ⊤ 0 before.it.store now.it.store before.disk now.disk given.commands (packet_row g packet was fails).commands (sym (ap (λ (r : Row). r.commands) (row-is fails given same))) makes.on_disk
 
   -- a row for which no octet of a file is looked at is such a row of uploading
@@ -115,8 +109,8 @@ module _ {D : Type 0} (g : Ghosts D) (packet : CallerPacket) (lists : List Calle
         each-way (λ fails. row_of packet told before.it.state fails ≡ Some fine.0) fine.1 (failed.1 ∙ ap (λ (r : upload.Row). Some r) same),
       )
 
-  anyway-by : (given : upload.Row) (row : Row) → by_upload lists given ≡ row → (result : Result ⊤ Halt) → MakesUploadAnyway g packet.item given before now replies result
-      → MakesAnyway g packet.item row was is replies result
+  anyway-by : (given : upload.Row) (row : Row) → by_upload lists given ≡ row → (result : Result ⊤ DiskFault) → MakesUploadAnyway g given before now replies result
+      → MakesAnyway g row was is replies result
   anyway-by given row same (Ok done) makes = record {
     answers = (
       ap (λ (r : Row). r.lists) same,
@@ -126,20 +120,13 @@ module _ {D : Type 0} (g : Ghosts D) (packet : CallerPacket) (lists : List Calle
     on_disk = among-at g ⊥ (one_if false) before.it.store now.it.store before.disk now.disk given.commands row.commands (ap (λ (r : Row). r.commands) same) makes.on_disk;
     memory = makes.memory ∙ ap (λ (cs : List Command). after_all (store_in before.it.store) (outlined_all cs)) (ap (λ (r : Row). r.commands) same);
   }
-  anyway-by given row same (Err stop.OutOfMemory) makes = record {
-    answers =
-        subst (λ (r : Row). IsTrue (takes_memory packet.item r.state)) same
-        (subst (λ (p : upload.State). IsTrue (upload.takes_memory packet.item p)) (sym (upload_part-free given.state)) makes.answers);
-    on_disk = tt;
-    memory = tt;
-  }
-  anyway-by given row same (Err stop.Disk) makes = record {
+  anyway-by given row same (Err fault) makes = record {
     answers = tt;
     on_disk = among-at g ⊤ 0 before.it.store now.it.store before.disk now.disk given.commands row.commands (ap (λ (r : Row). r.commands) same) makes.on_disk;
     memory = tt;
   }
 
-  takes-by : is_upload_kind (kind_of_item packet.item) ≡ true → (result : Result ⊤ Halt) → TakesUpload g packet before now replies result → TakesPacket g packet was is replies result
+  takes-by : is_upload_kind (kind_of_item packet.item) ≡ true → (result : Result ⊤ DiskFault) → TakesUpload g packet before now replies result → TakesPacket g packet was is replies result
   takes-by kind result takes = record {
     fails = takes.fails;
     stopped = stopped-by takes.fails result takes.stopped;
@@ -156,11 +143,9 @@ module _ {D : Type 0} (g : Ghosts D) (packet : CallerPacket) (lists : List Calle
   }
 
   -- a row without commands leaves the disk as reads do
-  untouched-by : (result : Result ⊤ Halt) (takes : TakesPacket g packet was is replies result) → IsKnown g before.disk → (packet_row g packet was takes.fails).commands ≡ [] → ChangesReads g before.disk now.disk
+  untouched-by : (result : Result ⊤ DiskFault) (takes : TakesPacket g packet was is replies result) → IsKnown g before.disk → (packet_row g packet was takes.fails).commands ≡ [] → ChangesReads g before.disk now.disk
   untouched-by (Ok done) takes known none = (takes.on_disk known).none none
-  untouched-by (Err stop.OutOfMemory) takes known none =
-      subst (λ (d : D). ChangesReads g before.disk d) (sym (ap (λ (w : AtDisk Working D). w.disk) takes.stopped.1)) (reads-none g before.disk)
-  untouched-by (Err stop.Disk) takes known none = (takes.on_disk known).none none
+  untouched-by (Err fault) takes known none = (takes.on_disk known).none none
 
 module _ {D : Type 0} (g : Ghosts D) (moment : ℕ) (item : Item) (uploads uploads_now : Uploading) (store store_now : StoreState) (lists : List CallerList) (disk disk_now : D) (replies : List ℕ) where
   abbrev before : AtDisk UploadWorking D
@@ -169,9 +154,9 @@ module _ {D : Type 0} (g : Ghosts D) (moment : ℕ) (item : Item) (uploads uploa
   abbrev now : AtDisk UploadWorking D
   now = working_at (at store_now disk_now) (state_of store_now uploads_now.phase)
 
-  pub taken-upload : is_upload_kind (kind_of_item item) ≡ true → (given : Result ⊤ Halt) → TakesUpload g (packet_of uploads.caller moment item) before now replies given
-      → (IsErrOf given stop.Disk → store_now.journal.failed ≡ true) → KeepsComplete (store_in store) (store_in store_now) → KeepsOtherCallers store store_now uploads.caller
-      → uploads_now.caller ≡ uploads.caller → (¬ IsErrOf given stop.Disk → store_now.journal.failed ≡ false) → StandsOn g store_now disk_now
+  pub taken-upload : is_upload_kind (kind_of_item item) ≡ true → (given : Result ⊤ DiskFault) → TakesUpload g (packet_of uploads.caller moment item) before now replies given
+      → (IsErr given → store_now.journal.failed ≡ true) → KeepsComplete (store_in store) (store_in store_now) → KeepsOtherCallers store store_now uploads.caller
+      → uploads_now.caller ≡ uploads.caller → (¬ IsErr given → store_now.journal.failed ≡ false) → StandsOn g store_now disk_now
       → IsHeld store_now uploads_now → IsOnlyOut store_now uploads_now → AreComplete (store_in store_now) lists
       → Taken g (packet_of uploads.caller moment item) (session_of uploads ready) (session_of uploads_now ready) (working_on store lists disk) (working_on store_now lists disk_now) replies given
   taken-upload kind given takes failed kept others caller healthy stands held only complete =

@@ -1,5 +1,5 @@
 -- What a packet that is taken, or one that is sent, does to the disk, with the reads that were made for it.
-use Rattle.std.proofs.Common.{◌≡◌, ℕ, ◌+◌, List, [], ◌∷◌, ◌++◌, ◌==◌, refl, ap, ap₂, sym, ◌∙◌, subst, Bool, true, false, ◌&&◌, ◌||◌, Option, None, Some, IfSome}
+use Rattle.std.proofs.Common.{◌≡◌, ℕ, ◌+◌, List, [], ◌∷◌, ◌++◌, ◌==◌, refl, ap, ap₂, sym, ◌∙◌, Bool, true, false, ◌&&◌, ◌||◌, Option, None, Some, IfSome}
 use Rattle.std.specs.Prelude.{⊤, Result, Ok, Err, if◌then◌else◌}
 use Rattle.std.specs.List.{list_any}
 use Rattle.std.specs.Option.{option_map}
@@ -15,14 +15,13 @@ use Rattle.file_store.specs.State.{IsKnown, IsReady, StoreState, store_on}
 use Rattle.file_store.specs.Working.{CutsOffAmongReads, DoesAmongReads, one_if}
 use Rattle.ftl0_session.specs.Uploads.Failures.{Failure, failed_reads, failed_write, is_read_fault, is_write_fault, read_fails, write_fails}
 use Rattle.ftl0_session.specs.Downloads.Sending as due
-use Rattle.disk_model.specs.declared.halt.Halt.{Halt}
-use Rattle.disk_model.specs.declared.halt.Halt.TheVariants as stop
+use Rattle.disk_model.specs.declared.disk.DiskFault.{DiskFault}
 use Rattle.ftl0_session.specs.Filling.{IsDue, PutsDue}
 use Rattle.ftl0_session.specs.Table.{DuePacket, Row, State, download_part, in_session, next_due, row_at, failed_reads_told, tells_failed_read}
 use Rattle.ftl0_session.specs.Taking.{TakesPacket, TellsRead, Working, row_over}
 use Rattle.ftl0_session.specs.Downloads.Filling.{filled}
 use Rattle.ftl0_session.specs.Uploads.Events.{packet_of}
-use Rattle.disk_model.specs.AtDisk.{AtDisk, at}
+use Rattle.disk_model.specs.AtDisk.{at}
 use Rattle.ftl0_session.proofs.FaultLemmas.{due_codes, fault_codes}
 
 -- ---- a read that failed is told, and no other
@@ -53,7 +52,7 @@ module _ {D : Type 0} (g : Ghosts D) (on : (first second third : D) → g.lasts 
   files = store_on g before.store disk
 
   -- how many reads its row tells of
-  missed-is : (result : Result ⊤ Halt) (takes : TakesPacket g (packet_of caller moment item) (at before disk) (at now disk_now) replies result)
+  missed-is : (result : Result ⊤ DiskFault) (takes : TakesPacket g (packet_of caller moment item) (at before disk) (at now disk_now) replies result)
       → one_if takes.fails ≡ failed_reads_told (row_over caller moment files before item takes.fails).replies
   missed-is result takes = sym (told-is caller moment files item before takes.fails (takes.told known))
 
@@ -65,12 +64,12 @@ module _ {D : Type 0} (g : Ghosts D) (on : (first second third : D) → g.lasts 
       among-same g ⊥ ⊥ (one_if takes.fails) (failed_reads_told row.replies) before.store now.store disk disk_now row.commands (λ p. p) (λ p. p) (missed-is (Ok done) takes) (takes.on_disk known)
 
   -- a write or a sync failed in one of them
-  pub taken-cut : g.lasts disk disk → (takes : TakesPacket g (packet_of caller moment item) (at before disk) (at now disk_now) replies (Err stop.Disk))
+  pub taken-cut : {fault : DiskFault} → g.lasts disk disk → (takes : TakesPacket g (packet_of caller moment item) (at before disk) (at now disk_now) replies (Err fault))
       → CutsOffAmongReads g ⊤ (failed_reads_told (row_over caller moment files before item takes.fails).replies) (at before.store disk) (at now.store disk_now) []
       (row_over caller moment files before item takes.fails).commands
   taken-cut same takes =
       let missed : ℕ = failed_reads_told (row_over caller moment files before item takes.fails).replies in
-      let none : 0 ≡ missed = sym (ap one_if takes.stopped.0) ∙ missed-is (Err stop.Disk) takes in
+      let none : 0 ≡ missed = sym (ap one_if takes.stopped.0) ∙ missed-is _ takes in
       record {
         then_is = at before.store disk;
         first =
@@ -78,20 +77,6 @@ module _ {D : Type 0} (g : Ghosts D) (on : (first second third : D) → g.lasts 
             (does-among g ⊥ before.store before.store disk disk [] (Does-none g ⊥ before.store disk (λ never. never) ready same));
         second = takes.on_disk known;
       }
-
-  -- there was no memory
-  pub taken-none : (takes : TakesPacket g (packet_of caller moment item) (at before disk) (at now disk_now) replies (Err stop.OutOfMemory))
-      → (now.store ≡ before.store) × DoesAmongReads g ⊥ (failed_reads_told (row_over caller moment files before item takes.fails).replies) before.store before.store disk disk_now []
-  taken-none takes =
-      let missed : ℕ = failed_reads_told (row_over caller moment files before item takes.fails).replies in
-      let none : 0 ≡ missed = sym (ap one_if takes.stopped.0) ∙ missed-is (Err stop.OutOfMemory) takes in
-      let still : disk_now ≡ disk = ap (λ (w : AtDisk Working D). w.disk) takes.stopped.1 in
-      let same : g.lasts disk disk = subst (λ (d : D). g.lasts disk d) still takes.puts.lasts in (
-        ap (λ (w : AtDisk Working D). w.it.store) takes.stopped.1,
-        subst (λ (d : D). DoesAmongReads g ⊥ missed before.store before.store disk d []) (sym still)
-            (among-same g ⊥ ⊥ 0 missed before.store before.store disk disk [] (λ p. p) (λ p. p) none
-            (does-among g ⊥ before.store before.store disk disk [] (Does-none g ⊥ before.store disk (λ never. never) ready same))),
-      )
 
 -- ---- a packet that is sent
 

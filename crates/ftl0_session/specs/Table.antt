@@ -134,10 +134,6 @@ session_row caller moment store lists state item fails =
 abbrev pub fault_reply : State → PacketValue
 fault_reply state = upload.fault_reply (upload_part state)
 
--- whether a packet takes memory that leads to this state
-abbrev pub takes_memory : Item → State → Bool
-takes_memory item next = upload.takes_memory item (upload_part next)
-
 -- LOGIN_RESP's flags: version 0, file headers in use, and in bit 3 whether the caller's list has numbers left
 abbrev pub flags : Bool → ℕ
 flags left = if left then 12 else 4

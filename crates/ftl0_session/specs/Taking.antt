@@ -1,6 +1,5 @@
 -- How the code's session answers a packet, and what that does to the disk.
-use Rattle.std.specs.Prelude.{◌≡◌, ℕ, List, [], ◌∷◌, Bool, true, false, Option, IsTrue, ⊤, Result, Ok, Err, IsErrOf}
-use Rattle.std.specs.Prelude.{OnOk}
+use Rattle.std.specs.Prelude.{◌≡◌, ℕ, List, [], ◌∷◌, Bool, true, false, Option, ⊤, Result, Ok, Err, IsErr, OnOk}
 use Rattle.px_base.specs.CallSign.{CallSign}
 use Rattle.disk_model.specs.declared.disk.Disk.{Ghosts}
 use Rattle.ftl0_packets.specs.Items.{texts}
@@ -13,7 +12,7 @@ use Rattle.file_store.specs.Calls.{ChangesReads}
 use Rattle.file_store.specs.State.{IsKnown, StandsOn, StoreState, store_in, store_on}
 use Rattle.file_store.specs.Store.{Store}
 use Rattle.file_store.specs.Working.{CountsSome, DoesAmongReads, PutsAmongReads, one_if}
-use Rattle.disk_model.specs.declared.halt.Halt.{Halt}
+use Rattle.disk_model.specs.declared.disk.DiskFault.{DiskFault}
 use Rattle.ftl0_session.specs.Uploads.Events.{CallerPacket, packet_of}
 use Rattle.ftl0_session.specs.Uploads.Others.{KeepsOtherCallers}
 use Rattle.disk_model.specs.AtDisk.{AtDisk, at}
@@ -21,10 +20,9 @@ use Rattle.ftl0_session.specs.Uploads.SessionState.{IsHeld, IsOnlyOut, SessionSt
 use Rattle.ftl0_session.specs.Downloads.Needs.{AreComplete, IsDueIn}
 use Rattle.ftl0_session.specs.Downloads.Table.{DownloadRow, DownloadState}
 use Rattle.ftl0_session.specs.Downloads.Taking.{Made, TakesByRow}
-use Rattle.disk_model.specs.declared.halt.Halt.TheVariants as stop
 pub use Rattle.ftl0_session.specs.Causes.{Says, TellsRead}
 use Rattle.ftl0_session.specs.SessionState.{SessionState, WorkingOn, caller_of, session_of, state_in, working_on}
-use Rattle.ftl0_session.specs.Table.{Row, State, command, download_row, fault_reply, session_row, takes_memory}
+use Rattle.ftl0_session.specs.Table.{Row, State, command, download_row, fault_reply, session_row}
 
 -- what a session takes a packet over, and what it leaves for the next one: the store, the lists of all callers, its
 -- state
@@ -58,33 +56,30 @@ Gives g before row now replies =
     DoesAll (files_at g before) (files_at g now) row.commands × (now.it.lists ≡ row.lists)
     × (now.it.state ≡ row.state) × (replies ≡ texts row.replies)
 
--- The answer to a packet is its row of the table. A stop says that there is no memory, where the row begins a file or
--- takes octets; or that a write or a sync of the disk failed in one of the row's commands.
+-- The answer to a packet is its row of the table, or says that a write or a sync of the disk failed in one of the row's
+-- commands.
 abbrev pub Answers :
-    {D : Type 0} → Ghosts D → Item → AtDisk Working D → Row → AtDisk Working D → List ℕ → Result ⊤ Halt → Type 0
-Answers g item before row now replies (Ok done) = Gives g before row now replies
-Answers g item before row now replies (Err stop.OutOfMemory) = IsTrue (takes_memory item row.state)
-Answers g item before row now replies (Err stop.Disk) = ⊤
+    {D : Type 0} → Ghosts D → AtDisk Working D → Row → AtDisk Working D → List ℕ → Result ⊤ DiskFault → Type 0
+Answers g before row now replies (Ok done) = Gives g before row now replies
+Answers g before row now replies (Err fault) = ⊤
 
 -- What a packet with this row does to the disk. Where it is answered, the row's commands are done, among reads of which
 -- one failed or none; or a write or a sync failed in one of them, and no read. A crash since the packet came leaves the
 -- store after the first so many of them, and the disk gets no longer than a store of so many blocks may be, or than it
 -- was.
 abbrev pub PutsRow :
-    {D : Type 0} → Ghosts D → Bool → Row → AtDisk Working D → AtDisk Working D → Result ⊤ Halt → Type 0
+    {D : Type 0} → Ghosts D → Bool → Row → AtDisk Working D → AtDisk Working D → Result ⊤ DiskFault → Type 0
 PutsRow g fails row before now (Ok done) =
     DoesAmongReads g ⊥ (one_if fails) before.it.store now.it.store before.disk now.disk row.commands
-PutsRow g fails row before now (Err stop.Disk) =
+PutsRow g fails row before now (Err fault) =
     DoesAmongReads g ⊤ 0 before.it.store now.it.store before.disk now.disk row.commands
-PutsRow g fails row before now (Err stop.OutOfMemory) = ⊤
 
--- What a stop leaves, whatever the disk tells; no read failed. There was no memory, and nothing changed and nothing is
--- replied; or a write or a sync of the disk failed, which code 3 replies, the lists stay, and a command is waited for.
+-- What a write or a sync of the disk that failed leaves, whatever the disk tells. No read failed, code 3 is replied,
+-- the lists stay, and a command is waited for.
 abbrev pub IsStopped :
-    {D : Type 0} → Bool → AtDisk Working D → AtDisk Working D → List ℕ → Result ⊤ Halt → Type 0
+    {D : Type 0} → Bool → AtDisk Working D → AtDisk Working D → List ℕ → Result ⊤ DiskFault → Type 0
 IsStopped fails before now replies (Ok done) = ⊤
-IsStopped fails before now replies (Err stop.OutOfMemory) = (fails ≡ false) × (now ≡ before) × (replies ≡ [])
-IsStopped fails before now replies (Err stop.Disk) =
+IsStopped fails before now replies (Err fault) =
     (fails ≡ false) × (now.it.state ≡ command) × (now.it.lists ≡ before.it.lists)
     × (replies ≡ texts (fault_reply before.it.state ∷ []))
 
@@ -95,17 +90,16 @@ LooksAtNone packet before row =
     (fails : Bool) → row_over packet.caller packet.moment (store_in before.store) before packet.item fails ≡ row
 
 -- the answer to a packet is this row of the table, whatever the disk tells
-abbrev pub AnswersAnyway : Item → Row → Working → List ℕ → Result ⊤ Halt → Type 0
-AnswersAnyway item row now replies (Ok done) =
+abbrev pub AnswersAnyway : Row → Working → List ℕ → Result ⊤ DiskFault → Type 0
+AnswersAnyway row now replies (Ok done) =
     (now.lists ≡ row.lists) × (now.state ≡ row.state) × (replies ≡ texts row.replies)
-AnswersAnyway item row now replies (Err stop.OutOfMemory) = IsTrue (takes_memory item row.state)
-AnswersAnyway item row now replies (Err stop.Disk) = ⊤
+AnswersAnyway row now replies (Err fault) = ⊤
 
 -- What a packet with this row gives and does to the disk, whatever the disk tells. No read failed. Where it is
 -- answered, memory tells the store after the row's commands.
-pub record MakesAnyway {D : Type 0} (g : Ghosts D) (item : Item) (row : Row) (before now : AtDisk Working D)
-    (replies : List ℕ) (result : Result ⊤ Halt) : Type 0 where
-  pub answers : AnswersAnyway item row now.it replies result
+pub record MakesAnyway {D : Type 0} (g : Ghosts D) (row : Row) (before now : AtDisk Working D)
+    (replies : List ℕ) (result : Result ⊤ DiskFault) : Type 0 where
+  pub answers : AnswersAnyway row now.it replies result
   pub on_disk : PutsRow g false row before now result
   pub memory :
       OnOk result (store_in now.it.store ≡ after_all (store_in before.it.store) (outlined_all row.commands))
@@ -115,18 +109,18 @@ pub record MakesAnyway {D : Type 0} (g : Ghosts D) (item : Item) (row : Row) (be
 -- row's commands are done. Whatever the disk tells, so it is of a row for which no octet of a file is looked at, and
 -- what is replied to any packet has code 3 only where that has its cause.
 pub record TakesPacket {D : Type 0} (g : Ghosts D) (packet : CallerPacket) (before now : AtDisk Working D)
-    (replies : List ℕ) (result : Result ⊤ Halt) : Type 0 where
+    (replies : List ℕ) (result : Result ⊤ DiskFault) : Type 0 where
   pub fails : Bool
   pub stopped : IsStopped fails before now replies result
   pub told : IsKnown g before.disk → fails ≡ true → TellsRead (packet_row g packet before fails).replies
   pub answers :
-      IsKnown g before.disk → Answers g packet.item before (packet_row g packet before fails) now replies result
+      IsKnown g before.disk → Answers g before (packet_row g packet before fails) now replies result
   pub on_disk : IsKnown g before.disk → PutsRow g fails (packet_row g packet before fails) before now result
   pub reads : CountsSome (g.read_faults before.disk) (g.read_faults now.disk) (one_if fails)
-  pub puts : PutsAmongReads g (IsErrOf result stop.Disk) before.disk now.disk
+  pub puts : PutsAmongReads g (IsErr result) before.disk now.disk
   pub anyway :
       (row : Row) → LooksAtNone packet before.it row
-      → (fails ≡ false) × MakesAnyway g packet.item row before now replies result
+      → (fails ≡ false) × MakesAnyway g row before now replies result
   pub says : OnOk result (Says g before.disk fails replies)
 
 -- a packet whose row has no command leaves the disk as reads do, where it is known what the store's files hold
@@ -139,15 +133,15 @@ at_work session on = at (working session on.store on.lists) on.disk
 
 -- What a packet of its caller does to a session, to the store, the lists and the disk, and what it keeps.
 pub record Taken {D : Type 0} (g : Ghosts D) (packet : CallerPacket) (old new : SessionState)
-    (before now : WorkingOn D) (replies : List ℕ) (result : Result ⊤ Halt) : Type 0 where
+    (before now : WorkingOn D) (replies : List ℕ) (result : Result ⊤ DiskFault) : Type 0 where
   pub takes : TakesPacket g packet (at_work old before) (at_work new now) replies result
   pub untouched :
       ReadsAlone g (packet_row g packet (at_work old before) takes.fails) before.disk now.disk
-  pub failed : IsErrOf result stop.Disk → now.store.journal.failed ≡ true
+  pub failed : IsErr result → now.store.journal.failed ≡ true
   pub kept : KeepsComplete (store_in before.store) (store_in now.store)
   pub others : KeepsOtherCallers before.store now.store packet.caller
   pub caller : caller_of new ≡ packet.caller
-  pub healthy : ¬ IsErrOf result stop.Disk → now.store.journal.failed ≡ false
+  pub healthy : ¬ IsErr result → now.store.journal.failed ≡ false
   pub stands_on : StandsOn g now.store now.disk
   pub held : IsHeld now.store new.uploads
   pub only : IsOnlyOut now.store new.uploads
@@ -169,7 +163,7 @@ lent uploads downloads store lists disk =
 
 -- so a packet at this moment does it
 abbrev pub TakenOver :
-    {D : Type 0} → Ghosts D → ℕ → Item → Lent D → Lent D → List ℕ → Result ⊤ Halt → Type 0
+    {D : Type 0} → Ghosts D → ℕ → Item → Lent D → Lent D → List ℕ → Result ⊤ DiskFault → Type 0
 TakenOver g moment item before now replies result =
     Taken g (packet_of before.uploads.caller moment item) (session_of before.uploads before.downloads)
     (session_of now.uploads now.downloads) (working_on before.store before.lists before.disk)

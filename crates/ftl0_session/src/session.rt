@@ -28,7 +28,7 @@ use crate::downloads::laws::stays_law;
 use crate::lists::Lists;
 use crate::uploads::{Replies, Session as Uploads};
 use arrayvec::ArrayVec;
-use disk_model::{Disk, Halt};
+use disk_model::{Disk, DiskFault};
 use file_store::FileStore;
 use ftl0_packets::{ErrorCode, Malformed, Packet, write_packet};
 use px_base::Call;
@@ -85,11 +85,10 @@ impl Session {
 
     /// Takes a packet: one row of the session's table, or code 3 where a write or a sync of the disk fails. The replies
     /// stand in place of what `replies` holds; the row's commands are on the disk before they are given. A read that
-    /// fails gives the row for that, and the session goes on. Takes memory, before it writes to the disk.
+    /// fails gives the row for that, and the session goes on. Takes no memory.
     ///
-    /// `Disk`: the upload is spent, and the store has failed. Some of the packet's octets may be held, and its file
-    /// begun, complete or gone. `OutOfMemory`: the packet gave nothing; session, store, lists and disk are as they
-    /// were.
+    /// After a fault of the disk the upload is spent, and the store has failed. Some of the packet's octets may be
+    /// held, and its file begun, complete or gone.
     pub fn take<D: Disk>(
         &mut self,
         disk: &mut D,
@@ -98,7 +97,7 @@ impl Session {
         store: &mut FileStore,
         lists: &mut Lists,
         replies: &mut Replies,
-    ) -> Result<(), Halt>
+    ) -> Result<(), DiskFault>
         requires { MayTake D.Disk store.old disk.old lists.old self.old }
 
         // Where it is known what the store's files hold, the answer is the packet's row for the reads that were made,
@@ -182,7 +181,7 @@ fn take_packet<D: Disk>(
     store: &mut FileStore,
     lists: &mut Lists,
     replies: &mut Replies,
-) -> Result<(), Halt>
+) -> Result<(), DiskFault>
     requires may { MayTake D.Disk store.old disk.old lists.old (session_of uploads.old downloads.old) }
     requires one { DoesOne uploads.old.phase downloads.old }
     ensures taken { TakenOver D.Disk moment (item_of packet.entry)
@@ -216,7 +215,7 @@ fn take_upload<D: Disk>(
     store: &mut FileStore,
     lists: &Lists,
     replies: &mut Replies,
-) -> Result<(), Halt>
+) -> Result<(), DiskFault>
     requires may { MayTake D.Disk store.old disk.old lists.now (session_of uploads.old ready) }
     requires kind { is_upload_kind (kind_of_item (item_of packet)) ≡ true }
     ensures { TakenOver D.Disk moment (item_of packet.entry) (lent uploads.old ready store.old lists.now disk.old)

@@ -204,12 +204,6 @@ part-more part octets rest most few =
     ∙ append_assoc part (take r octets) (take (r - length octets) rest)
     ∙ ap (λ (l : List ℕ). part ++ l) (sym (take-both r octets rest))
 
--- how many octets there is room for then
-pub room-more : (part octets : List ℕ) (most : ℕ) → length part ≤ most → most - length (part ++ take (most - length part) octets) ≡ (most - length part) - length octets
-room-more part octets most few =
-    let r = most - length part in
-    omega (arith, length-append part (take r octets), length-take r octets)
-
 pub joined-at : (store : Store) {X : Type 0} (f : X → Due) (xs : List X) (i : ℕ) → length (joined store (map f (drop i xs))) ≤ length (joined store (map f xs))
 joined-at store f [] zero = omega arith
 joined-at store f [] (suc i) = omega arith

@@ -1,11 +1,10 @@
--- Complete files of the store: what is told of them, and their headers.
-use Rattle.std.proofs.Common.{◌≡◌, ℕ, List, [], ◌∷◌, length, Bool, true, false, ◌&&◌, Option, None, Some, refl, sym, ap, ◌∙◌}
+-- Complete files of the store.
+use Rattle.std.proofs.Common.{◌≡◌, ℕ, List, [], ◌∷◌, Bool, true, false, ◌&&◌, Option, None, Some, refl, sym, ap, ◌∙◌}
 use Rattle.std.specs.Prelude.{is_some}
 use Rattle.std.specs.List.{list_all}
-use Rattle.std.specs.Option.{option_and_then, option_map}
+use Rattle.std.specs.Option.{option_and_then}
 use Rattle.std.proofs.lemmas.List.Elements.{All-cons, All-nil}
-use Rattle.file_store.specs.EntriesInfo.{Info}
-use Rattle.file_store.specs.Info.{IsCompleteIn, info_of, is_complete}
+use Rattle.file_store.specs.Info.{IsCompleteIn, is_complete}
 use Rattle.file_store.specs.Store.{Entry, Holding, Store, complete, entry_of, octets_at, octets_of, partial}
 use Rattle.ftl0_session.specs.Downloads.Needs.{AreFiles}
 use Rattle.ftl0_session.specs.Downloads.Table.{complete_octets, file_of, has_file, octets_in}
@@ -17,10 +16,6 @@ file_in entry = option_and_then (λ (e : Entry). complete_octets e.holding) entr
 whole : (holding : Holding) → is_complete holding ≡ true → complete_octets holding ≡ Some (octets_of holding)
 whole (partial held) is = absurd (cc)
 whole (complete octets moment) is = refl
-
-not_whole : (holding : Holding) → is_complete holding ≡ false → complete_octets holding ≡ None
-not_whole (partial held) is = refl
-not_whole (complete octets moment) is = absurd (cc)
 
 is_whole : (holding : Holding) (file : List ℕ) → complete_octets holding ≡ Some file → (is_complete holding ≡ true) × (octets_of holding ≡ file)
 is_whole (partial held) file is = absurd (cc)
@@ -41,31 +36,7 @@ file-complete store number file is = by (entry_of store number) refl
         let both = is_whole entry.holding file (ap file_in (sym e) ∙ is) in
         ((entry, e, both.0), ap octets_at e ∙ both.1)
 
--- ---- what is told of it
-
-pub told-whole : (o : Option Entry) (info : Info) → Some info ≡ option_map info_of o → info.complete ≡ true → Some info.held ≡ option_map length (file_in o)
-told-whole None info is done = absurd (cc)
-told-whole (Some entry) info is done =
-    let same : info ≡ info_of entry = cc in
-    let all = whole entry.holding (ap (λ (i : Info). i.complete) (sym same) ∙ done) in
-    ap (λ (i : Info). Some i.held) same ∙ ap (option_map length) (sym all)
-
-pub told-partial : (o : Option Entry) (info : Info) → Some info ≡ option_map info_of o → info.complete ≡ false → None ≡ option_map length (file_in o)
-told-partial None info is part = absurd (cc)
-told-partial (Some entry) info is part =
-    let same : info ≡ info_of entry = cc in
-    ap (option_map length) (sym (not_whole entry.holding (ap (λ (i : Info). i.complete) (sym same) ∙ part)))
-
-pub told-none : (o : Option Entry) → None ≡ option_map info_of o → None ≡ option_map length (file_in o)
-told-none None is = refl
-told-none (Some entry) is = absurd (cc)
-
 -- ---- several files
-
--- there is a complete file where its length is told
-pub some-length : (o : Option (List ℕ)) → is_some (option_map length o) ≡ is_some o
-some-length None = refl
-some-length (Some file) = refl
 
 has-complete : (store : Store) (number : ℕ) → has_file store number ≡ true → IsCompleteIn store number
 has-complete store number is = by (file_of store number) refl

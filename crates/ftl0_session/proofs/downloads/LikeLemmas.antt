@@ -5,7 +5,6 @@ use Rattle.std.specs.List.{list_all}
 use Rattle.std.specs.Option.{option_map}
 use Rattle.std.proofs.lemmas.Bool.Decides.{nat_tests}
 use Rattle.std.proofs.lemmas.List.{append-nil}
-use Rattle.std.proofs.lemmas.List.Elements.{All-weaker}
 use Rattle.px_base.specs.CallSign.{CallSign}
 use Rattle.disk_model.specs.declared.disk.Disk.{Ghosts}
 use Rattle.ftl0_packets.specs.Layout.{dl_error_resp, packet_text}
@@ -18,7 +17,7 @@ use Rattle.file_store.specs.declared.refusals.HeaderFault.{HeaderFault}
 use Rattle.file_store.specs.declared.refusals.HeaderFault.TheVariants as fault
 use Rattle.file_store.proofs.Offered.{like_complete, like_entry, like_none, like_octets_length, like_partial, like_whole, reads_same}
 use Rattle.ftl0_session.specs.Lists.Lists.{CallerList}
-use Rattle.ftl0_session.specs.Downloads.Needs.{AreFiles, AreStored, IsDueIn, IsStored, LiesIn}
+use Rattle.ftl0_session.specs.Downloads.Needs.{AreStored, IsDueIn, IsStored, LiesIn}
 use Rattle.ftl0_session.specs.Downloads.Sending.{due_octets, is_due, is_read, joined, next_due, octets_due}
 use Rattle.ftl0_session.specs.Downloads.Table.{DownloadRow, DownloadState, Due, asked_file, asked_row, complete_octets, directory_row, download_cmd_row, file_of, file_row, files_row, has_file, kept, listed_files, listing, lists_after, octets_in, ready, refused_row, sending, stored, waiting}
 use Rattle.ftl0_session.specs.Downloads.Taking.{Made, MakesRow, made, made_by}
@@ -129,9 +128,6 @@ module _ (one other : Store) (like : IsStoreLike one other) where
   due-length-like (sending number place last) is = length-stored one number place last is ∙ sym (length-stored other number place last (lies-like number place last is))
   due-length-like waiting is = refl
   due-length-like (listing dues) is = joined-like dues is
-
-  pub files-like : (numbers : List ℕ) → AreFiles one numbers → AreFiles other numbers
-  files-like numbers are = All-weaker (IsCompleteIn one) (IsCompleteIn other) (λ number is. like_complete one other like number is) numbers are
 
 -- ---- the row of a directory command, by what memory tells of its files
 

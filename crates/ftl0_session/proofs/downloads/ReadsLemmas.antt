@@ -19,14 +19,6 @@ module _ {D : Type 0} (g : Ghosts D) where
     stays = record { same = second.stays.same ∙ first.stays.same; ready = second.stays.ready };
   }
 
-  -- one more, which failed or didn't
-  pub last-more : ((first second third : D) → g.lasts first second → g.lasts second third → g.lasts first third) → (P : Type 0) (old mid new : StoreState) (disk disk_mid disk_now : D)
-      → OnlyReads g ⊥ old mid disk disk_mid → OnlyReads g P mid new disk_mid disk_now → OnlyReads g P old new disk disk_now
-  last-more on P old mid new disk disk_mid disk_now first second = record {
-    reads = reads_on g on disk disk_mid disk_now ⊥ P (λ never. never) first.reads second.reads;
-    stays = record { same = second.stays.same ∙ first.stays.same; ready = second.stays.ready };
-  }
-
 -- what reads leave
 module _ {D : Type 0} (g : Ghosts D) (P : Type 0) (old now : StoreState) (disk disk_now : D) (reads : OnlyReads g P old now disk disk_now) where
   -- what is known of the octets stays known

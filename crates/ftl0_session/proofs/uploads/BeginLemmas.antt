@@ -24,16 +24,15 @@ use Rattle.file_store.specs.declared.refusals.BeginRefusal.TheVariants as refusa
 use Rattle.file_store.proofs.Offered.{like_bars, like_can_begin}
 use Rattle.ftl0_session.specs.declared.uploads.phase.Phase.TheVariants as phase
 use Rattle.disk_model.specs.AtDisk.{at}
-use Rattle.disk_model.specs.declared.halt.Halt.{Halt}
-use Rattle.disk_model.specs.declared.halt.Halt.TheVariants as stop
+use Rattle.disk_model.specs.declared.disk.DiskFault.{DiskFault}
 use Rattle.ftl0_session.specs.Uploads.Events.{packet_of}
 use Rattle.ftl0_session.specs.Uploads.Others.{KeepsOtherCallers}
 use Rattle.ftl0_session.specs.Uploads.Session.{command, granted_row, session_row}
 use Rattle.ftl0_session.specs.Uploads.SessionState.{MayTake, NoOtherOut}
 use Rattle.ftl0_session.specs.Uploads.Taking.{Answered, AnswersRefusal}
-use Rattle.ftl0_session.proofs.uploads.DoesLemmas.{answered-alone, takes-cut, takes-memory}
+use Rattle.ftl0_session.proofs.uploads.DoesLemmas.{answered-alone, takes-cut}
 use Rattle.ftl0_session.proofs.uploads.OtherLemmas.{never_some}
-use Rattle.ftl0_session.proofs.uploads.Rows.{others-same, upload-refused}
+use Rattle.ftl0_session.proofs.uploads.Rows.{upload-refused}
 use Rattle.ftl0_session.proofs.uploads.UploadRows.{bars-cannot, below-next, may-can, push-back, row-barred, row-granted}
 
 module _ (caller : CallSign) (moment len : ℕ) (before now : StoreState) (is : IsStore (store_in before)) (rests : KeepsRests before.files now.files (store_in before).next) where
@@ -99,28 +98,28 @@ module _ {D : Type 0} (g : Ghosts D) (caller : CallSign) (moment len : ℕ) (bef
   abbrev Item-asked : Item
   Item-asked = Ok (upload_cmd 0 len)
 
-  abbrev Gives-it : StoreState → D → List ℕ → Result ⊤ Halt → Type 0
+  abbrev Gives-it : StoreState → D → List ℕ → Result ⊤ DiskFault → Type 0
   Gives-it now disk_now replies result = Answered g (packet_of caller moment (Ok (upload_cmd 0 len))) command (at before disk) (at now disk_now) replies (phase.Command, result)
 
   -- nothing was touched
-  untouched : (replies : List ℕ) (result : Result ⊤ Halt) → (now ≡ before) × (disk_now ≡ disk) → Gives-it before disk replies result → Gives-it now disk_now replies result
+  untouched : (replies : List ℕ) (result : Result ⊤ DiskFault) → (now ≡ before) × (disk_now ≡ disk) → Gives-it before disk replies result → Gives-it now disk_now replies result
   untouched replies result same given =
       subst (λ (s : StoreState). Gives-it s disk_now replies result) (sym same.0) (subst (λ (d : D). Gives-it before d replies result) (sym same.1) given)
 
-  barred : (replies : List ℕ) (result : Result ⊤ Halt) (cause : BeginBar) → (now ≡ before) × (disk_now ≡ disk) → Bars cause (store_in before) len
+  barred : (replies : List ℕ) (result : Result ⊤ DiskFault) (cause : BeginBar) → (now ≡ before) × (disk_now ≡ disk) → Bars cause (store_in before) len
       → (result ≡ Ok tt) × (replies ≡ texts (ul_error_resp 13 ∷ [])) → Gives-it now disk_now replies result
   barred replies result cause same bars answer =
-      subst (λ (r : Result ⊤ Halt). Gives-it now disk_now replies r) (sym answer.0)
+      subst (λ (r : Result ⊤ DiskFault). Gives-it now disk_now replies r) (sym answer.0)
       (untouched replies (Ok tt) same
       (answered-alone g (packet_of caller moment Item-asked) command before disk may.ready before replies (phase.Command, Ok tt) lasts
       (upload-refused caller moment Item-asked before before 13 replies (phase.Command, Ok tt)
       (λ files like. row-barred caller moment files len (bars-cannot files len cause (like_bars (store_in before) files like cause len bars))) refl refl answer.1 may.only)))
 
-  not_reached : {P : Type 0} → IsTrue (begin_reaches (refusing refusal.OutOfMemory)) ⊎ P → P
+  not_reached : {P : Type 0} → IsTrue (begin_reaches (refusing refusal.TooLong)) ⊎ P → P
   not_reached (inl never) = absurd (true≢false (sym never))
   not_reached (inr p) = p
 
-  pub begin-refused : (r : BeginRefusal) (replies : List ℕ) (result : Result ⊤ Halt) → RefusesBegin before len r
+  pub begin-refused : (r : BeginRefusal) (replies : List ℕ) (result : Result ⊤ DiskFault) → RefusesBegin before len r
       → IsTrue (begin_reaches (refusing r)) ⊎ ((now ≡ before) × (disk_now ≡ disk))
       → (IsTrue (begin_reaches (refusing r)) → Does g (IsErr (refusing r)) before now disk disk_now (begin (store_in before).next caller len moment ∷ []))
       → store_in now ≡ store_in before → StandsOn g now disk_now
@@ -132,26 +131,11 @@ module _ {D : Type 0} (g : Ghosts D) (caller : CallSign) (moment len : ℕ) (bef
   begin-refused (refusal.NoRoom blocks free) replies result refused same does still stands uploads rests kept answer =
       barred replies result (bar.NoRoom blocks free) (not_reached same) refused answer
   begin-refused refusal.Failed replies result refused same does still stands uploads rests kept answer = absurd answer
-  begin-refused refusal.OutOfMemory replies result refused same does still stands uploads rests kept answer =
-      subst (λ (r : Result ⊤ Halt). Gives-it now disk_now replies r) (sym answer.0)
-      (untouched replies (Err stop.OutOfMemory) (not_reached same)
-      (record {
-        takes =
-            takes-memory g (packet_of caller moment Item-asked) command before disk may.ready replies lasts
-            (λ files like. (granted_row caller moment files.next len, granted-like caller moment len (store_in before) files like is refused.0, refl)) answer.1;
-        failed = λ e. absurd (cc e);
-        healthy = λ fine. may.ready.healthy;
-        stands_on = may.ready.stands_on;
-        held = tt;
-        only = may.only;
-        others = others-same before caller;
-        kept = λ number entry found whole. found;
-      }))
-  begin-refused refusal.Disk replies result refused same does still stands uploads rests kept answer =
+  begin-refused refusal.Disk replies (Ok done) refused same does still stands uploads rests kept answer = absurd (true≢false (sym answer.0))
+  begin-refused refusal.Disk replies (Err fault) refused same does still stands uploads rests kept answer =
       let commands : List Command = begin (store_in before).next caller len moment ∷ [] in
       let done = does refl in
-      subst (λ (r : Result ⊤ Halt). Gives-it now disk_now replies r) (sym answer.0)
-      (record {
+      record {
         takes =
             takes-cut g (packet_of caller moment Item-asked) command before disk may.ready command now disk_now replies _ commands refl done
             (λ files like.
@@ -163,4 +147,4 @@ module _ {D : Type 0} (g : Ghosts D) (caller : CallSign) (moment len : ℕ) (bef
         only = unbegun-only caller moment len before now is rests still may.only;
         others = unbegun-others caller moment len before now is rests still uploads;
         kept = kept;
-      })
+      }

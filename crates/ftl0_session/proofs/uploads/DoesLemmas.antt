@@ -1,11 +1,11 @@
 -- What a packet does to the store's disk.
 use Rattle.std.proofs.Common.{◌≡◌, ℕ, List, [], ◌∷◌, ◌++◌, refl, ap, sym, ◌∙◌, subst, inl, arith, Bool, true, false, true≢false, Option, Some}
-use Rattle.std.specs.Prelude.{⊤, Result, Ok, Err, IsTrue}
+use Rattle.std.specs.Prelude.{⊤, Result, Ok, Err}
 use Rattle.std.specs.List.{AllByRecursion}
 use Rattle.disk_model.specs.declared.disk.Disk.{Ghosts}
 use Rattle.ftl0_packets.specs.Items.{texts}
 use Rattle.ftl0_packets.specs.Layout.{ul_nak_resp}
-use Rattle.file_store.proofs.Offered.{at_told, Does-moved, Does-none, Does-same, does-among, in_parked, like_same, on_like, puts_none, puts-among, puts-among-same, stands_parked}
+use Rattle.file_store.proofs.Offered.{at_told, Does-moved, Does-none, Does-same, does-among, in_parked, like_same, on_like, puts-among, puts-among-same, stands_parked}
 use Rattle.file_store.specs.Command.{Command, DoesAll, after_all}
 use Rattle.file_store.specs.EntriesKept.{KeepsComplete}
 use Rattle.file_store.specs.Like.{IsStoreLike}
@@ -14,9 +14,8 @@ use Rattle.file_store.specs.OnDisk.{Does, outlined_all}
 use Rattle.file_store.specs.State.{IsKnown, IsReady, StoreState, store_in, store_on}
 use Rattle.file_store.specs.Working.{CountsSome, DoesAmongReads, PutsAmongReads, one_if}
 use Rattle.ftl0_session.specs.declared.uploads.phase.Phase.{Phase}
-use Rattle.disk_model.specs.declared.halt.Halt.{Halt}
-use Rattle.disk_model.specs.declared.halt.Halt.TheVariants as stop
-use Rattle.ftl0_session.specs.Uploads.Session.{Row, State, command, fault_reply, takes_memory}
+use Rattle.disk_model.specs.declared.disk.DiskFault.{DiskFault}
+use Rattle.ftl0_session.specs.Uploads.Session.{Row, State, command, fault_reply}
 use Rattle.ftl0_session.specs.Uploads.SessionState.{state_of}
 use Rattle.ftl0_session.specs.Causes.{Says}
 use Rattle.ftl0_session.specs.Uploads.Laws.{IsNoFault}
@@ -59,7 +58,7 @@ module _ {D : Type 0} (g : Ghosts D) (packet : CallerPacket) (state : State) (be
         → (IsKnown g disk → DoesAmongReads g ⊥ (one_if fails) before now disk disk_now commands)
         → (gives : IsKnown g disk → GivesRow (row_of packet (store_on g before disk) state fails) commands next replies)
         → ((known : IsKnown g disk) → fails ≡ true → (gives known).0.replies ≡ ul_nak_resp 3 ∷ []) → (fails ≡ false → commands ≡ [] → disk_now ≡ disk)
-        → ((row : Row) → LooksAtNone packet here row → (fails ≡ false) × MakesAnyway g packet.item row (at here disk) (at (record { store = now; state = next }) disk_now) replies (Ok tt))
+        → ((row : Row) → LooksAtNone packet here row → (fails ≡ false) × MakesAnyway g row (at here disk) (at (record { store = now; state = next }) disk_now) replies (Ok tt))
         → Says g disk fails replies
         → TakesPacket g packet (working_at (at before disk) state) (working_at (at now disk_now) next) replies (Ok tt)
     takes-among P fails commands fine puts reads does gives told untouched anyway says = record {
@@ -108,11 +107,11 @@ module _ {D : Type 0} (g : Ghosts D) (packet : CallerPacket) (state : State) (be
         )) (says-row g disk packet (store_in before) state told.0 replies told.1 told.4)
 
     -- the disk failed in one of them
-    pub takes-fault : (P : Type 0) (commands : List Command) → P → PutsAmongReads g P disk disk_now → CountsSome (g.read_faults disk) (g.read_faults disk_now) 0
+    pub takes-fault : {fault : DiskFault} (P : Type 0) (commands : List Command) → P → PutsAmongReads g P disk disk_now → CountsSome (g.read_faults disk) (g.read_faults disk_now) 0
         → (IsKnown g disk → DoesAmongReads g ⊤ 0 before now disk disk_now commands) → (IsKnown g disk → HasRow (row_of packet (store_on g before disk) state false) commands)
         → (commands ≡ [] → disk_now ≡ disk) → next ≡ command → replies ≡ texts (fault_reply state ∷ [])
-        → ((row : Row) → LooksAtNone packet here row → MakesAnyway g packet.item row (at here disk) (at (record { store = now; state = next }) disk_now) replies (Err stop.Disk))
-        → TakesPacket g packet (working_at (at before disk) state) (working_at (at now disk_now) next) replies (Err stop.Disk)
+        → ((row : Row) → LooksAtNone packet here row → MakesAnyway g row (at here disk) (at (record { store = now; state = next }) disk_now) replies (Err fault))
+        → TakesPacket g packet (working_at (at before disk) state) (working_at (at now disk_now) next) replies (Err fault)
     takes-fault P commands failed puts reads does rows untouched waits text anyway = record {
       fails = false;
       stopped = (refl, waits, text);
@@ -134,9 +133,9 @@ module _ {D : Type 0} (g : Ghosts D) (packet : CallerPacket) (state : State) (be
     }
 
     -- the same where nothing is read
-    pub takes-cut : (P : Type 0) (commands : List Command) → P → Does g P before now disk disk_now commands
+    pub takes-cut : {fault : DiskFault} (P : Type 0) (commands : List Command) → P → Does g P before now disk disk_now commands
         → ((files : Store) → IsStoreLike (store_in before) files → HasRow (row_of packet files state false) commands)
-        → next ≡ command → replies ≡ texts (fault_reply state ∷ []) → TakesPacket g packet (working_at (at before disk) state) (working_at (at now disk_now) next) replies (Err stop.Disk)
+        → next ≡ command → replies ≡ texts (fault_reply state ∷ []) → TakesPacket g packet (working_at (at before disk) state) (working_at (at now disk_now) next) replies (Err fault)
     takes-cut P commands failed does rows waits text =
         let done : DoesAmongReads g ⊤ 0 before now disk disk_now commands = does-among g ⊤ before now disk disk_now commands (Does-same g P ⊤ before now disk disk_now commands (λ p. tt) (λ t. failed) does) in
         let told = rows (store_in before) (like_same (store_in before)) in
@@ -145,26 +144,6 @@ module _ {D : Type 0} (g : Ghosts D) (packet : CallerPacket) (state : State) (be
         (λ row looks.
         let is : told.0 ≡ row = one-row told.0 row (sym told.1 ∙ looks false) in
         record { answers = tt; on_disk = subst (λ (cs : List Command). DoesAmongReads g ⊤ 0 before now disk disk_now cs) (told.2 ∙ ap (λ (r : Row). r.commands) is) done; memory = tt })
-
-  -- there was no memory
-  pub takes-memory : (replies : List ℕ) → g.lasts disk disk
-      → ((files : Store) → IsStoreLike (store_in before) files → (row : Row) × (row_of packet files state false ≡ Some row) × IsTrue (takes_memory packet.item row.state)) → replies ≡ []
-      → TakesPacket g packet (working_at (at before disk) state) (working_at (at before disk) state) replies (Err stop.OutOfMemory)
-  takes-memory replies lasts rows none =
-      let told = rows (store_in before) (like_same (store_in before)) in
-      record {
-        fails = false;
-        stopped = (refl, refl, none);
-        makes = λ known.
-            let row = rows (store_on g before disk) (on_like g before disk ready known) in
-            (row.0, row.1, record { told = λ never. absurd (true≢false (sym never)); answers = row.2; on_disk = tt; untouched = λ ok none. refl });
-        reads = counts-none _ _ refl;
-        puts = puts-among g _ disk disk (puts_none g disk _ (λ e. cc e) lasts);
-        anyway = λ row looks.
-            let is : told.0 ≡ row = one-row told.0 row (sym told.1 ∙ looks false) in
-            (refl, record { answers = subst (λ (r : Row). IsTrue (takes_memory packet.item r.state)) is told.2; on_disk = tt; memory = tt });
-        says = tt;
-      }
 
   -- a packet that leaves the disk alone
   answered-by : (now : StoreState) (replies : List ℕ) (phase : Phase) → g.lasts disk disk → AnsweredAlone packet state before now replies (phase, Ok tt)
@@ -185,10 +164,10 @@ module _ {D : Type 0} (g : Ghosts D) (packet : CallerPacket) (state : State) (be
         kept = subst (λ (s : Store). KeepsComplete (store_in before) s) (sym same) (λ number entry found whole. found);
       }
 
-  pub answered-alone : (now : StoreState) (replies : List ℕ) (taken : Phase × Result ⊤ Halt) → g.lasts disk disk → AnsweredAlone packet state before now replies taken
+  pub answered-alone : (now : StoreState) (replies : List ℕ) (taken : Phase × Result ⊤ DiskFault) → g.lasts disk disk → AnsweredAlone packet state before now replies taken
       → Answered g packet state (at before disk) (at now disk) replies taken
   answered-alone now replies taken lasts alone =
-      let P : Result ⊤ Halt → Type 0 = λ r. AnsweredAlone packet state before now replies (taken.0, r) → Answered g packet state (at before disk) (at now disk) replies (taken.0, r) in
+      let P : Result ⊤ DiskFault → Type 0 = λ r. AnsweredAlone packet state before now replies (taken.0, r) → Answered g packet state (at before disk) (at now disk) replies (taken.0, r) in
       subst P (sym alone.answered) (answered-by now replies taken.0 lasts) alone
 
 -- a list with one more at its end is another

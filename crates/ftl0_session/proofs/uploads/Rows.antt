@@ -12,7 +12,7 @@ use Rattle.ftl0_session.specs.declared.uploads.asked.Asked.{Asked}
 use Rattle.ftl0_session.specs.declared.uploads.asked.Asked.TheVariants as asked
 use Rattle.ftl0_session.specs.declared.uploads.phase.Phase.{Phase}
 use Rattle.ftl0_session.specs.declared.uploads.phase.Phase.TheVariants as phase
-use Rattle.disk_model.specs.declared.halt.Halt.{Halt}
+use Rattle.disk_model.specs.declared.disk.DiskFault.{DiskFault}
 use Rattle.ftl0_session.specs.Uploads.Laws.{RowsLaw}
 use Rattle.ftl0_session.specs.Uploads.Others.{KeepsOtherCallers}
 use Rattle.ftl0_packets.specs.Items.{kind_of_item, texts}
@@ -164,20 +164,20 @@ module _ (caller : CallSign) (moment : ℕ) (state : State) (item : Item) (store
   }
 
   -- one that is refused with a code
-  pub alone-refused : (here : Phase) (code : ℕ) (replies : List ℕ) (taken : Phase × Result ⊤ Halt) → ((files : Store) → session_row caller moment files state item ≡ Some (refused_row state code))
+  pub alone-refused : (here : Phase) (code : ℕ) (replies : List ℕ) (taken : Phase × Result ⊤ DiskFault) → ((files : Store) → session_row caller moment files state item ≡ Some (refused_row state code))
       → state_of store here ≡ state → taken ≡ (here, Ok tt) → replies ≡ texts (ul_error_resp code ∷ []) → PhaseIsHeld store caller here → NoOtherOut store caller (number_of here)
       → AnsweredAlone (packet_of caller moment item) state store store replies taken
   alone-refused here code replies taken row at is text held only =
-      subst (λ (t : Phase × Result ⊤ Halt). AnsweredAlone (packet_of caller moment item) state store store replies t) (sym is)
+      subst (λ (t : Phase × Result ⊤ DiskFault). AnsweredAlone (packet_of caller moment item) state store store replies t) (sym is)
       (alone-row here (refused_row state code) replies row refl at text held only)
 
 -- An UPLOAD_CMD that is refused, over a store that stays.
-pub upload-refused : (caller : CallSign) (moment : ℕ) (item : Item) (before now : StoreState) (code : ℕ) (replies : List ℕ) (taken : Phase × Result ⊤ Halt)
+pub upload-refused : (caller : CallSign) (moment : ℕ) (item : Item) (before now : StoreState) (code : ℕ) (replies : List ℕ) (taken : Phase × Result ⊤ DiskFault)
     → ((files : Store) → IsStoreLike (store_in before) files → session_row caller moment files command item ≡ Some (refused_row command code)) → now ≡ before → taken ≡ (phase.Command, Ok tt)
     → replies ≡ texts (ul_error_resp code ∷ []) → NoOtherOut before caller None → AnsweredAlone (packet_of caller moment item) command before now replies taken
 upload-refused caller moment item before now code replies taken row same is text only =
     subst (λ (s : StoreState). AnsweredAlone (packet_of caller moment item) command before s replies taken) (sym same)
-    (subst (λ (t : Phase × Result ⊤ Halt). AnsweredAlone (packet_of caller moment item) command before before replies t) (sym is)
+    (subst (λ (t : Phase × Result ⊤ DiskFault). AnsweredAlone (packet_of caller moment item) command before before replies t) (sym is)
     (record {
       answered = refl;
       gives = λ files like. (refused_row command code, row files like, refl, refl, text);

@@ -2,7 +2,7 @@
 use Rattle.std.proofs.Common.{◌≡◌, ◌≢◌, ◌⊎◌, ℕ, ◌+◌, ◌-◌, ◌≤◌, ◌<◌, Bool, ◌&&◌, List, [], ◌∷◌, ◌++◌, length, refl, true, false, arith, length-append, sym, ap, ap₂, ◌∙◌, eq-eqb, inl, inr, Option, None, Some, true≢false, ◌==◌}
 use Rattle.std.proofs.lemmas.Bool.Decides.{Decides-eqb, nat_tests, eqb_tells}
 use Rattle.std.proofs.lemmas.Slice.Eq.{bytes_eq-Decides}
-use Rattle.std.specs.Prelude.{find, Ok, IsTrue, nat_le, nat_lt, nat_eq, bytes_eq}
+use Rattle.std.specs.Prelude.{find, Ok, nat_le, nat_lt, nat_eq, bytes_eq}
 use Rattle.px_base.specs.CallSign.{CallSign}
 use Rattle.pfh_items.specs.Faults.{fault_code}
 use Rattle.ftl0_packets.specs.Layout.{data_end, data_part, ul_nak_resp, upload_cmd}
@@ -85,11 +85,6 @@ module _ (store : Store) (len : ℕ) where
       let room : store.blocks - blocks_of store < blocks_for len = h.3 in
       let test : nat_le (blocks_of store + blocks_for len) store.blocks ≡ false = grind (arith, nat_tests) in
       not_fourth _ _ _ _ (short h.0) (few h.1) (left h.2) test
-
--- what the condition of a begin says
-pub begin-can : (a b : Bool) → IsTrue (a && b) → b ≡ true
-begin-can true b h = h
-begin-can false b h = absurd (true≢false (sym h))
 
 -- no entry has the number that comes next
 pub below-next : (store : Store) (number : ℕ) (e : Entry) → IsStore store → entry_of store number ≡ Some e → number ≢ store.next
@@ -198,9 +193,6 @@ module _ (caller : CallSign) (moment : ℕ) (store : Store) (number : ℕ) (e : 
       let test : passes (λ x. has_room x.holding x.length (length (rest ++ octets))) (entry_of store number) ≡ false =
       passes-at (λ x. has_room x.holding x.length (length (rest ++ octets))) false (rw partly few) in
       rw test refl
-
-  octets-here : octets_at (entry_of store number) ≡ held
-  octets-here = ap octets_at found ∙ ap octets_of partly
 
   count-here : (rest : List ℕ) → length (octets_of e.holding) + length rest ≡ length held + length rest
   count-here rest = ap (λ (h : List ℕ). length h + length rest) (ap octets_of partly)

@@ -6,7 +6,7 @@ use Rattle.file_store.specs.State.{StoreState}
 use Rattle.ftl0_session.specs.declared.uploads.asked.Asked.{Asked}
 use Rattle.ftl0_session.specs.declared.uploads.asked.Asked.TheVariants as asked
 use Rattle.ftl0_session.specs.declared.uploads.phase.Phase.{Phase}
-use Rattle.disk_model.specs.declared.halt.Halt.{Halt}
+use Rattle.disk_model.specs.declared.disk.DiskFault.{DiskFault}
 use Rattle.ftl0_packets.specs.Items.{kind_of_item}
 use Rattle.ftl0_session.specs.Uploads.Events.{packet_of}
 use Rattle.ftl0_session.specs.Uploads.Session.{aborting, is_upload_kind}
@@ -25,7 +25,7 @@ abbrev pub AnswersAsked : Asked → (Item → Type 0) → Type 0
 AnswersAsked what IsAnswered = (item : Item) → IsAsked item what → IsAnswered item
 
 -- In Aborting, whoever the caller is and whatever the store, which stays.
-abbrev pub AnswersAborting : Asked → List ℕ → (Phase × Result ⊤ Halt) → Type 0
+abbrev pub AnswersAborting : Asked → List ℕ → (Phase × Result ⊤ DiskFault) → Type 0
 AnswersAborting what replies taken =
     (caller : CallSign) (moment : ℕ) (store : StoreState) (item : Item) → NoOtherOut store caller None
     → IsAsked item what → AnsweredAlone (packet_of caller moment item) aborting store store replies taken

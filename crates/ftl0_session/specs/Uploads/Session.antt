@@ -1,7 +1,7 @@
 -- The uploads of a caller's session (FTL0 1990, uploading): its states while it receives files or is ready to, and its
 -- table row by row, as far as it is of uploading.
 use Rattle.std.specs.Prelude.{ℕ, ◌+◌, ◌==◌, List, [], ◌∷◌, ◌++◌, length, Option, None, Some, Ok}
-use Rattle.std.specs.Prelude.{bytes_eq, Bool, true, false, not, ◌&&◌, ◌||◌, if◌then◌else◌}
+use Rattle.std.specs.Prelude.{bytes_eq, Bool, not, ◌&&◌, ◌||◌, if◌then◌else◌}
 use Rattle.std.specs.Option.{option_or}
 use Rattle.px_base.specs.CallSign.{CallSign}
 use Rattle.pfh_items.specs.Faults.{fault_code}
@@ -167,15 +167,3 @@ abbrev pub fault_reply : State → PacketValue
 fault_reply command = ul_error_resp (octet_of error.ServerFsys)
 fault_reply (receiving number rest) = ul_nak_resp (octet_of error.ServerFsys)
 fault_reply aborting = ul_error_resp (octet_of error.ServerFsys)
-
--- whether a file is received in this state
-abbrev pub is_receiving : State → Bool
-is_receiving command = false
-is_receiving (receiving number rest) = true
-is_receiving aborting = false
-
--- whether a packet takes memory that leads to this state: it begins a new file, or its octets are taken
-abbrev pub takes_memory : Item → State → Bool
-takes_memory (Ok (upload_cmd number file_length)) next = (number == 0) && is_receiving next
-takes_memory (Ok (data_part octets)) next = is_receiving next
-takes_memory item next = false

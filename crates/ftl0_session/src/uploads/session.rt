@@ -1,6 +1,6 @@
 //! The uploads of one caller's session: what each packet of uploading gives (FTL0 1990, uploading).
 
-ghost use Rattle.std.specs.Prelude.{◌≡◌, ◌≢◌, ◌↔◌, ℕ, [], ◌∷◌, false, true, IsErrOf, IsTrue, None, Ok};
+ghost use Rattle.std.specs.Prelude.{◌≡◌, ◌≢◌, ◌↔◌, ℕ, [], ◌∷◌, false, true, IsErr, IsTrue, None, Ok};
 ghost use Rattle.ftl0_packets.specs.ErrorCodes.{octet_of};
 ghost use Rattle.ftl0_packets.specs.Items.{kind_of_item, texts};
 ghost use Rattle.ftl0_packets.specs.Layout.{data_end, data_part, packet_text, ul_ack_resp, ul_error_resp};
@@ -22,7 +22,7 @@ ghost use Rattle.ftl0_session.specs.Uploads.Events.{packet_of};
 use crate::uploads::Phase;
 use crate::uploads::asked::Asked;
 use arrayvec::ArrayVec;
-use disk_model::{Disk, Halt};
+use disk_model::{Disk, DiskFault};
 use file_store::laws::state_law;
 use file_store::{
     AppendRefusal, BeginRefusal, FileStore, OpenUpload, Receipt, ResumeRefusal, SealRefusal,
@@ -50,7 +50,7 @@ impl Model for Session {
 }
 
 /// What a packet gives in a phase: the phase after it, and the answer.
-type Taken = (Phase, Result<(), Halt>);
+type Taken = (Phase, Result<(), DiskFault>);
 
 impl Session {
     /// The session of this caller, in the state Command; nothing is replied. Takes no memory.
@@ -79,7 +79,7 @@ impl Session {
 
     /// Takes a packet of uploading: its row of the session's table, or code 3 where a write or a sync of the disk
     /// fails. The row's commands are on the disk before its replies are given. A read that fails gives the row for
-    /// that. Takes memory, before it touches the disk.
+    /// that. Takes no memory.
     pub fn take<D: Disk>(
         &mut self,
         disk: &mut D,
@@ -87,7 +87,7 @@ impl Session {
         moment: u32,
         store: &mut FileStore,
         replies: &mut Replies,
-    ) -> Result<(), Halt>
+    ) -> Result<(), DiskFault>
         requires kind { is_upload_kind (kind_of_item (item_of packet)) ≡ true }
         requires may { MayTake D.Disk store.old disk.old self.old.caller self.old.phase }
 
@@ -96,13 +96,13 @@ impl Session {
         ensures takes { TakesPacket D.Disk (packet_of self.old.caller moment (item_of packet.entry))
             (working_at (at store.old disk.old) (state_of store.old self.old.phase))
             (working_at (at store.new disk.new) (state_of store.new self.new.phase)) replies.new.items result }
-        ensures failed { IsErrOf result Halt.Disk → store.new.journal.failed ≡ true }
+        ensures failed { IsErr result → store.new.journal.failed ≡ true }
         ensures kept { KeepsComplete (store_in store.old) (store_in store.new) }
         ensures others { KeepsOtherCallers store.old store.new self.old.caller }
 
         // What the next packet needs.
         ensures caller { self.new.caller ≡ self.old.caller }
-        ensures healthy { ¬ IsErrOf result Halt.Disk → store.new.journal.failed ≡ false }
+        ensures healthy { ¬ IsErr result → store.new.journal.failed ≡ false }
         ensures stands_on { StandsOn D.Disk store.new disk.new }
         ensures held { IsHeld store.new self.new }
         ensures only { IsOnlyOut store.new self.new }
@@ -218,7 +218,7 @@ impl Session {
             }
             Err(SealRefusal::Disk) => {
                 reply_nak(ErrorCode::ServerFsys, replies);
-                (Phase::Command, Err(Halt::Disk))
+                (Phase::Command, Err(DiskFault))
             }
             Err(SealRefusal::Failed) => unreachable!(),
         }
@@ -270,7 +270,7 @@ fn begin<D: Disk>(
 }
 
 /// Answers a refusal to begin a file. The store hadn't failed before.
-fn refuse_begin(refusal: BeginRefusal, replies: &mut Replies) -> Result<(), Halt>
+fn refuse_begin(refusal: BeginRefusal, replies: &mut Replies) -> Result<(), DiskFault>
     requires healthy { refusal ≢ BeginRefusal.Failed }
     ensures { AnswersRefusal refusal replies.new.items result }
 {
@@ -284,11 +284,7 @@ fn refuse_begin(refusal: BeginRefusal, replies: &mut Replies) -> Result<(), Halt
         }
         BeginRefusal::Disk => {
             reply_error(ErrorCode::ServerFsys, replies);
-            Err(Halt::Disk)
-        }
-        BeginRefusal::OutOfMemory => {
-            replies.clear();
-            Err(Halt::OutOfMemory)
+            Err(DiskFault)
         }
         BeginRefusal::Failed => unreachable!(),
     }
@@ -382,11 +378,7 @@ fn take_data<D: Disk>(
         }
         Err(AppendRefusal::Disk) => {
             reply_nak(ErrorCode::ServerFsys, replies);
-            (Phase::Command, Err(Halt::Disk))
-        }
-        Err(AppendRefusal::OutOfMemory(up)) => {
-            replies.clear();
-            (Phase::Receiving(up), Err(Halt::OutOfMemory))
+            (Phase::Command, Err(DiskFault))
         }
         Err(AppendRefusal::Failed) => unreachable!(),
     }

@@ -9,10 +9,9 @@ use Rattle.ftl0_session.specs.declared.uploads.phase.Phase.TheVariants as phase
 use Rattle.ftl0_session.specs.Uploads.Events.{packet_of}
 use Rattle.ftl0_session.specs.Uploads.Session.{aborting, command, taken_row}
 use Rattle.ftl0_session.specs.Uploads.SessionState.{NoOtherOut, receiving_of}
-use Rattle.ftl0_session.proofs.uploads.DoesLemmas.{answered-alone, takes-cut, takes-done, takes-memory}
+use Rattle.ftl0_session.proofs.uploads.DoesLemmas.{answered-alone, takes-cut, takes-done}
 use Rattle.ftl0_session.proofs.uploads.HoldLemmas.{own-entry, parked, taken, too_much}
 use Rattle.ftl0_session.proofs.uploads.OtherLemmas.{only-none, only-own, others-kept}
-use Rattle.ftl0_session.proofs.uploads.Rows.{others-same}
 use Rattle.ftl0_session.proofs.uploads.UploadRows.{receiving-at}
 use Rattle.ftl0_session.proofs.uploads.session.take_data.Goals as goal
 
@@ -101,29 +100,3 @@ returns-in-Err-Disk g c = λ moment.
           (own-entry a.caller store a.up holds c.requires.held.1) c.in-Err-Disk.ensures.keeps.uploads;
       kept = c.in-Err-Disk.ensures.keeps.kept;
     }
-
-pub returns-in-Err-OutOfMemory : goal.returns-in-Err-OutOfMemory
-returns-in-Err-OutOfMemory g c = λ moment.
-    let a = c.args in
-    let store = c.args.store.now in
-    let holds = c.requires.held.0 in
-    let refused = rw c.in-Err-OutOfMemory.field-0-is at c.in-Err-OutOfMemory.ensures.refused in
-    let same = rw c.in-Err-OutOfMemory.field-0-is at c.in-Err-OutOfMemory.ensures.back in
-    let still : c.append.new.disk ≡ c.args.disk.now = untouched (rw c.in-Err-OutOfMemory.field-0-is at c.in-Err-OutOfMemory.ensures.untouched) in
-    rw (still, same, refused.2)
-    (record {
-      takes =
-          takes-memory g.D.Disk (packet_of a.caller moment (Ok (data_part a.octets.now))) (receiving_of store a.up) store a.disk.now c.requires.ready _ (g.met.D.Disk.lasts_same a.disk.now)
-          (λ files like. (
-            taken_row a.up.number (with_bytes store a.up a.octets.now),
-            taken a.caller store a.up holds files like moment a.octets.now refused.0,
-            refl,
-          )) c.clear.ensures;
-      failed = λ e. absurd (cc e);
-      healthy = λ ok. c.requires.ready.healthy;
-      stands_on = c.requires.ready.stands_on;
-      held = c.requires.held;
-      only = c.requires.only;
-      others = others-same store a.caller;
-      kept = λ number entry found whole. found;
-    })
