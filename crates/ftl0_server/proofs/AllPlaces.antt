@@ -4,12 +4,13 @@ use Rattle.std.proofs.Common.{◌≡◌, ◌≢◌, ℕ, zero, suc, List, [], �
 use Rattle.std.specs.Prelude.{slice_get}
 use Rattle.std.specs.List.{position, prefix_len}
 use Rattle.std.proofs.lemmas.Option.{same_Some}
-use Rattle.ax25_link.specs.Kept.{Kept, StandsFor, is_pending}
+use Rattle.ax25_link.specs.Kept.{StandsFor, is_pending}
 use Rattle.ax25_link.specs.Window.{Window}
+use Rattle.packet_link.specs.PacketLink.{PacketLinkState}
 use Rattle.ftl0_server.specs.Connection.Connected.{Connected}
 use Rattle.ftl0_server.specs.Connection.ConnectionState.{ConnectionState}
 use Rattle.ftl0_server.specs.declared.place.Place.{Place}
-use Rattle.ftl0_server.specs.declared.place.Place.TheVariants.{Free, Talking, Leaving}
+use Rattle.ftl0_server.specs.declared.place.Place.TheVariants.{Talking, Vacant}
 use Rattle.ftl0_server.specs.ServerState.{AllPlaces, SendsAs}
 use Rattle.ftl0_server.specs.Slots.{Slot, connected, free, leaving}
 
@@ -22,11 +23,11 @@ suc_no j same = cc
 suc_same : (j i : ℕ) → suc j ≡ suc i → j ≡ i
 suc_same j i same = cc
 
--- A place and a slot that send alike are of one of these four pairs.
-pub sends-cases : (w : Window) (P : Place → Slot → Type 0) → P Free free → ((d : ConnectionState) (c : Connected) → StandsFor w d.link c.end → P (Talking d) (connected c))
-    → ((link : Kept) → is_pending link ≡ false → P (Leaving link) free) → ((link : Kept) (c : Connected) → StandsFor w link c.end → P (Leaving link) (leaving c))
+-- A place and a slot that send alike are of one of these three pairs.
+pub sends-cases : (w : Window) (P : Place → Slot → Type 0) → ((d : ConnectionState) (c : Connected) → StandsFor w d.link c.end → P (Talking d) (connected c))
+    → ((link : PacketLinkState) → is_pending link.link ≡ false → P (Vacant link) free) → ((link : PacketLinkState) (c : Connected) → StandsFor w link.link c.end → P (Vacant link) (leaving c))
     → (p : Place) (s : Slot) → SendsAs w p s → P p s
-sends-cases w P none talks silent leaves p s sends = grind (arith, common_steps)
+sends-cases w P talks silent leaves p s sends = grind (arith, common_steps)
 
 module _ (P : Place → Slot → Type 0) where
   -- what holds of none, and of a pair and others where it holds of the others, holds of all

@@ -60,7 +60,7 @@ module _ (w : Window) where
       first-less s ss (slot_next w s) (places_next w ss) (slot-less s fits.0) (places-less ss fits.1) fits.0 fits.1 z sends
 
   slot-fits : (p : Place) (s : Slot) → SendsAs w p s → PlaceFits p → SlotFits w s
-  slot-fits = sends-cases w (λ p s. PlaceFits p → SlotFits w s) (λ fit. tt) (λ d c stands fit. fit w c.end stands) (λ link none fit. tt) (λ link c stands fit. fit w c.end stands)
+  slot-fits = sends-cases w (λ p s. PlaceFits p → SlotFits w s) (λ d c stands fit. fit w c.end stands) (λ link none fit. tt) (λ link c stands fit. fit w c.end stands)
 
   slots-fit : (places : List Place) (slots : List Slot) → AllFit places → AllPlaces (SendsAs w) places slots → SlotsFit w slots
   slots-fit places slots fit all =

@@ -6,7 +6,7 @@ use Rattle.ftl0_session.specs.SessionState.{caller_of}
 use Rattle.ftl0_server.specs.Connection.ConnectionState.{ConnectionState}
 use Rattle.ftl0_server.specs.AtPlace.{HasEnded, MayAllEnd, MayEnd}
 use Rattle.ftl0_server.specs.declared.place.Place.{Place}
-use Rattle.ftl0_server.specs.declared.place.Place.TheVariants.{Free, Talking, Leaving}
+use Rattle.ftl0_server.specs.declared.place.Place.TheVariants.{Moving, Talking, Vacant}
 use Rattle.ftl0_server.specs.Kept.{AreDistinct, IsAt}
 use Rattle.ftl0_server.proofs.SettledLemmas.{held-kept}
 
@@ -40,7 +40,7 @@ held-behind store p ps are = (
 
 -- and once the first is ended
 held-ended : (store now : StoreState) (p : Place) (ps : List Place) → AreHeld store (p ∷ ps) → HasEnded store now p → AreHeld now ps
-held-ended store now Free ps are ended = subst (λ (s : StoreState). AreHeld s ps) (sym ended) (held-behind store Free ps are)
+held-ended store now Moving ps are ended = subst (λ (s : StoreState). AreHeld s ps) (sym ended) (held-behind store Moving ps are)
 held-ended store now (Talking d) ps are ended =
     let behind = held-behind store (Talking d) ps are in (
       λ i c at.
@@ -48,12 +48,12 @@ held-ended store now (Talking d) ps are ended =
           held-kept store now (caller_of d.session) ended.others (caller_of c.session) other c.session.uploads.phase (behind.0 i c at),
       behind.1,
     )
-held-ended store now (Leaving link) ps are ended = subst (λ (s : StoreState). AreHeld s ps) (sym ended) (held-behind store (Leaving link) ps are)
+held-ended store now (Vacant link) ps are ended = subst (λ (s : StoreState). AreHeld s ps) (sym ended) (held-behind store (Vacant link) ps are)
 
 may-first : (store : StoreState) (p : Place) (ps : List Place) → AreHeld store (p ∷ ps) → MayEnd store p
-may-first store Free ps are = tt
+may-first store Moving ps are = tt
 may-first store (Talking c) ps are = are.0 0 c refl
-may-first store (Leaving link) ps are = tt
+may-first store (Vacant link) ps are = tt
 
 pub may-all : (store : StoreState) (places : List Place) → AreHeld store places → MayAllEnd store places
 may-all store [] are = tt

@@ -1,7 +1,7 @@
 -- What a frame makes of a server, by what it makes of one place.
 use Rattle.std.proofs.lemmas.Grind.{common_steps}
 use Rattle.std.proofs.Common.{◌≡◌, ◌⊎◌, ℕ, zero, suc, ◌<◌, List, [], ◌∷◌, length, get_or, set, Bool, true, false, Option, rules, None, Some, refl, sym, ◌∙◌, ap, subst, inl, inr, arith}
-use Rattle.std.specs.Prelude.{slice_get, ⊤, Result, Ok, Err, IsErrOf}
+use Rattle.std.specs.Prelude.{slice_get, ⊤, Result, Ok, Err, IsErr}
 use Rattle.std.specs.List.{position}
 use Rattle.std.proofs.lemmas.List.Quantifiers.{position-Some}
 use Rattle.std.proofs.lemmas.Option.{slice_get-get_or}
@@ -9,7 +9,6 @@ use Rattle.px_base.specs.CallSign.{CallSign}
 use Rattle.disk_model.specs.declared.disk.Disk.{Ghosts}
 use Rattle.ax25_frames.specs.FrameText.{FrameValue}
 use Rattle.ax25_frames.specs.Kinds.{FitsControl}
-use Rattle.ax25_link.specs.Kept.{is_pending}
 use Rattle.ftl0_session.specs.Lists.Lists.{CallerList}
 use Rattle.file_store.specs.Store.{Store}
 use Rattle.file_store.specs.State.{IsKnown, IsReady, StoreState, store_on}
@@ -20,8 +19,7 @@ use Rattle.ftl0_session.specs.Uploads.Failures.{Failure}
 use Rattle.ftl0_session.proofs.uploads.UploadRows.{same_call-decides}
 use Rattle.ftl0_session.specs.SessionState.{caller_of, working_on}
 use Rattle.disk_model.specs.AtDisk.{at}
-use Rattle.disk_model.specs.declared.halt.Halt.{Halt as Stop}
-use Rattle.disk_model.specs.declared.halt.Halt.TheVariants as stop
+use Rattle.disk_model.specs.declared.disk.DiskFault.{DiskFault}
 use Rattle.ftl0_server.specs.Connection.Connected.{Connected}
 use Rattle.ftl0_server.specs.Connection.ConnectionState.{ConnectionState, with_reads}
 use Rattle.ftl0_server.specs.Connection.Hearing.{Happened, LooksAtNone, hearing}
@@ -29,7 +27,7 @@ use Rattle.node.specs.Events.{IsFor, hears}
 use Rattle.ftl0_server.specs.AtPlace.{IsPlace, KeepsStore, MayHear, PlaceHears, PlaceHearsBy, Works}
 use Rattle.ftl0_server.specs.Calls.{Hears, HearsBy, HearsEvent, HearsStranger, SameStore}
 use Rattle.ftl0_server.specs.declared.place.Place.{Place}
-use Rattle.ftl0_server.specs.declared.place.Place.TheVariants.{Free, Talking}
+use Rattle.ftl0_server.specs.declared.place.Place.TheVariants.{Moving, Talking}
 use Rattle.ftl0_server.specs.Kept.{IsAt, IsSettled}
 use Rattle.ftl0_server.specs.Server.{Server, becoming, heard_at, hearing_at, hearing_by, hearing_stranger}
 use Rattle.ftl0_server.specs.ServerStep.{LooksAtNoFile, LooksAtNoneAt, LooksAtNoneBy, happening}
@@ -37,6 +35,7 @@ use Rattle.ftl0_server.specs.ServerState.{AllPlaces, IsServer, SaysAs, SendsAs, 
 use Rattle.ftl0_server.specs.Slots.{Slot, connected, first_empty, is_callers, place_of, slot_after}
 use Rattle.ftl0_server.proofs.AllPlaces.{all-both, all-get, all-set, all-to, never, same-position}
 use Rattle.ftl0_server.proofs.connection.HearLemmas.{gives-nothing, nothing-done as does-nothing}
+use Rattle.ftl0_server.proofs.connection.FeedLemmas.{fine, no-fault}
 use Rattle.ftl0_server.proofs.NextLemmas.{none_first}
 use Rattle.ftl0_server.proofs.TickLemmas.{all-works, own-only}
 
@@ -50,7 +49,7 @@ talks caller p is = grind (arith, common_steps, false_no, same_call-decides)
 
 -- the place that was found
 pub found-within : (p : Place → Bool) (places : List Place) (i : ℕ) → position p places ≡ Some i → i < length places
-found-within p places i found = (position-Some p places i Free found).0
+found-within p places i found = (position-Some p places i Moving found).0
 
 pub found-passes : (p : Place → Bool) (places : List Place) (i : ℕ) (d : Place) → position p places ≡ Some i → p (get_or places i d) ≡ true
 found-passes p places i d found = (position-Some p places i d found).1
@@ -65,10 +64,10 @@ pub found-at : (caller : CallSign) (places : List Place) (i : ℕ) (d : Place) (
 found-at caller places i d c found is = slice_get-get_or places i d (found-within (has_caller caller) places i found) ∙ ap (λ (p : Place). Some p) is
 
 -- nothing is pending at any place
-pub quiet-any : (places : List Place) (i : ℕ) (c : ConnectionState) → IsAt places i c → any_pending places ≡ false → is_pending c.link ≡ false
-quiet-any [] i c at none = absurd (never (Talking c) at)
-quiet-any (p ∷ ps) zero c at none = grind (arith, common_steps)
-quiet-any (p ∷ ps) (suc i) c at none = quiet-any ps i c at (none_first (place_pending p) (any_pending ps) none).1
+pub quiet-any : (places : List Place) (i : ℕ) (here : Place) → slice_get places i ≡ Some here → any_pending places ≡ false → place_pending here ≡ false
+quiet-any [] i here at none = absurd (never here at)
+quiet-any (p ∷ ps) zero here at none = grind (arith, common_steps)
+quiet-any (p ∷ ps) (suc i) here at none = quiet-any ps i here at (none_first (place_pending p) (any_pending ps) none).1
 
 -- the sender's connection may hear the frame
 pub may-hear : (me : CallSign) (k : ℕ) (store : StoreState) (places : List Place) (i : ℕ) (d : Place) (frame : FrameValue)
@@ -79,7 +78,7 @@ may-hear me k store places i d frame found settled none is_for numbers =
     let at = found-at frame.src places i d c.0 found c.1 in
     let seated = settled.seated i c.0 at in
     let only = own-only me k store places i c.0 at settled in
-    let quiet = quiet-any places i c.0 at none in
+    let quiet = quiet-any places i (Talking c.0) at none in
     let may : MayHear store frame (Talking c.0) = grind (arith, common_steps) in rw c.1 may
 
 -- ---- places and slots
@@ -125,13 +124,12 @@ module _ {D : Type 0} (g : Ghosts D) (old new : ServerState) (server : Server) (
       let sends = now-sends s store lists here.0 in grind (arith, common_steps)
 
   module _ (event : List Failure → Happened) where
-    heard-by : (result : Result ⊤ Stop) → (result ≡ Ok tt → store_on g new.store disk_now ≡ after_all (store_on g old.store disk) (event []).done) → PlaceHearsBy g server.window event (at old.store disk) (working_on new.store new.lists disk_now) p result
+    heard-by : (result : Result ⊤ DiskFault) → (result ≡ Ok tt → store_on g new.store disk_now ≡ after_all (store_on g old.store disk) (event []).done) → PlaceHearsBy g server.window event (at old.store disk) (working_on new.store new.lists disk_now) p result
         → HearsBy g (λ failures. heard_at server place (event failures)) old new disk disk_now result
     heard-by (Ok done) store by =
         let same : store_on g new.store disk_now ≡ after_all server.store (event []).done = store refl ∙ ap (λ (s : Store). after_all s (event []).done) is.store in
         (by.0, now-is (slot_after (event [])) (store_on g new.store disk_now) (after_all server.store (event []).done) (event []).lists by.2 same by.1, by.3)
-    heard-by (Err stop.Disk) store by = search (rules, arith, now-sends)
-    heard-by (Err stop.OutOfMemory) store by = inr by
+    heard-by (Err fault) store by = search (rules, arith, now-sends)
 
   -- the slot of the place
   slot_is : (d : Connected) × (slice_get server.slots place ≡ Some (connected d)) × IsPlace server.window old.store (Talking c) (connected d)
@@ -148,7 +146,7 @@ module _ {D : Type 0} (g : Ghosts D) (old new : ServerState) (server : Server) (
       let there : LooksAtNone server.window moment server.store server.lists d frame = subst (LooksAtNoneAt server frame moment) at here in
       inr (rw (is.store, is.lists) there)
 
-  pub server-hears : (result : Result ⊤ Stop) → IsKnown g disk ⊎ LooksAtNoFile server (hears frame moment)
+  pub server-hears : (result : Result ⊤ DiskFault) → IsKnown g disk ⊎ LooksAtNoFile server (hears frame moment)
       → ((d : Connected) → IsPlace server.window old.store (Talking c) (connected d) → Seen d
       → PlaceHears g server.window (hearing server.window moment (store_on g old.store disk) old.lists d frame) (at old.store disk) (working_on new.store new.lists disk_now) p result)
       → Hears g (happening server (hears frame moment)) old new disk disk_now result
@@ -176,45 +174,22 @@ module _ {D : Type 0} (g : Ghosts D) (old new : ServerState) (settled : IsSettle
       subst (λ (s : StoreState). DoesAmongReads g ⊥ 0 old.store s disk disk []) (sym same.store) (does-nothing g old.store old.store disk ready lasts (gives-nothing old.store))
 
   module _ (server : Server) (is : IsServer (store_on g old.store disk) old server) where
-    stranger-by : (result : Result ⊤ Stop) → HearsStranger (λ s. hearing_stranger s frame moment) old new result
-        → HearsBy g (λ failures. becoming (hearing_stranger server frame moment)) old new disk disk result
-    stranger-by (Ok done) heard = (
-      refl,
-      subst (λ (s : StoreState). IsServer (store_on g s disk) new (hearing_stranger server frame moment)) (sym same.store) (heard (store_on g old.store disk) server is),
-      nothing-done,
-    )
-    stranger-by (Err stop.Disk) heard = absurd heard
-    stranger-by (Err stop.OutOfMemory) heard = inl nothing-done
-
-    stranger-hears : (result : Result ⊤ Stop) → HearsStranger (λ s. hearing_stranger s frame moment) old new result
-        → Hears g (happening server (hears frame moment)) old new disk disk result
-    stranger-hears result heard =
-        let by : Hears g (λ failures. becoming (hearing_stranger server frame moment)) old new disk disk result =
-        record { parts = []; by = stranger-by result heard; since = nothing-done.since } in
-        subst (λ (o : Option ℕ). Hears g (λ failures. hearing_by server frame moment failures o) old new disk disk result)
+    stranger-hears : HearsStranger (λ s. hearing_stranger s frame moment) old new → Hears g (happening server (hears frame moment)) old new disk disk (Ok tt)
+    stranger-hears heard =
+        let stands = subst (λ (s : StoreState). IsServer (store_on g s disk) new (hearing_stranger server frame moment)) (sym same.store) (heard (store_on g old.store disk) server is) in
+        let by : Hears g (λ failures. becoming (hearing_stranger server frame moment)) old new disk disk (Ok tt) =
+        record { parts = []; by = (refl, stands, nothing-done); since = nothing-done.since } in
+        subst (λ (o : Option ℕ). Hears g (λ failures. hearing_by server frame moment failures o) old new disk disk (Ok tt))
         (sym found ∙ same-place_of _ old server is old.me old.k settled frame.src) by
 
-  no-disk : (result : Result ⊤ Stop) → HearsStranger (λ s. hearing_stranger s frame moment) old new result → ¬ IsErrOf result stop.Disk
-  no-disk (Ok done) heard is = absurd cc
-  no-disk (Err stop.Disk) heard is = heard
-  no-disk (Err stop.OutOfMemory) heard is = absurd cc
-
-  stranger-keeps : (result : Result ⊤ Stop) → HearsStranger (λ s. hearing_stranger s frame moment) old new result → KeepsStore g (IsErrOf result stop.Disk) old.store new.store disk disk
-  stranger-keeps result heard = rw same.store (record {
-    puts = puts-among g (IsErrOf result stop.Disk) disk disk (puts_none g disk (IsErrOf result stop.Disk) (no-disk result heard) lasts);
+  stranger-keeps : KeepsStore g (IsErr fine) old.store new.store disk disk
+  stranger-keeps = rw same.store (record {
+    puts = puts-among g (IsErr fine) disk disk (puts_none g disk (IsErr fine) no-fault lasts);
     kept = λ number entry there whole. there;
     healthy = λ fine. ready.healthy;
     stands_on = ready.stands_on;
   })
 
   -- what it does to the server
-  pub stranger-event : (result : Result ⊤ Stop) → HearsStranger (λ s. hearing_stranger s frame moment) old new result
-      → HearsEvent g (hears frame moment) old new disk disk result
-  stranger-event result heard = record { hears = λ known server is. stranger-hears server is result heard; alone = λ server is looks. stranger-hears server is result heard; keeps = stranger-keeps result heard; me = same.me }
-
--- what a frame of a station without a connection makes of a server, said otherwise
-pub stranger-at : (step other : Server → Server) (old new : ServerState) (result : Result ⊤ Stop) → ((s : Server) → step s ≡ other s)
-    → HearsStranger step old new result → HearsStranger other old new result
-stranger-at step other old new (Ok done) same heard = λ store server is. subst (λ (s : Server). IsServer store new s) (same server) (heard store server is)
-stranger-at step other old new (Err stop.Disk) same heard = heard
-stranger-at step other old new (Err stop.OutOfMemory) same heard = heard
+  pub stranger-event : HearsStranger (λ s. hearing_stranger s frame moment) old new → HearsEvent g (hears frame moment) old new disk disk (Ok tt)
+  stranger-event heard = record { hears = λ known server is. stranger-hears server is heard; alone = λ server is looks. stranger-hears server is heard; keeps = stranger-keeps; me = same.me }

@@ -1,7 +1,8 @@
 -- Frames are given out, and then nothing is pending.
 use Rattle.std.proofs.lemmas.Grind.{common_steps}
 use Rattle.std.proofs.Common.{◌≡◌, ℕ, zero, suc, List, [], ◌∷◌, map, Bool, true, false, Option, None, Some, sym, rules, ◌∙◌, subst, arith}
-use Rattle.std.specs.Prelude.{⊤}
+use Rattle.std.specs.Prelude.{All, ⊤}
+use Rattle.std.proofs.lemmas.List.Elements.{All-cons, All-nil}
 use Rattle.std.proofs.lemmas.Option.{same_Some}
 use Rattle.px_base.specs.CallSign.{CallSign}
 use Rattle.ax25_frames.specs.FrameText.{FrameText, canonical}
@@ -13,7 +14,7 @@ use Rattle.ftl0_server.specs.Connection.ConnectionState.{ConnectionState}
 use Rattle.ftl0_server.specs.declared.place.Place.{Place}
 use Rattle.ftl0_server.specs.declared.place.Place.TheVariants.{Talking}
 use Rattle.ftl0_server.specs.Calls.{HandsOut, SamePlaces}
-use Rattle.ftl0_server.specs.Kept.{IsAt, IsSettled}
+use Rattle.ftl0_server.specs.Kept.{HasLink, IsAt, IsSettled}
 use Rattle.ftl0_server.specs.Places.{PlacesGive, SamePlace, SameTalk}
 use Rattle.ftl0_server.specs.Server.{Refused, Server, sends_by, sends_of_places, server_next, settled}
 use Rattle.ftl0_server.specs.ServerState.{AllPlaces, IsServer, SaysAs, SendsAs, SendsFor, ServerState, any_pending, place_pending}
@@ -122,6 +123,17 @@ same-first p d same = grind (arith, common_steps)
 same-second : (q : Place) (c : ConnectionState) → SamePlace (Talking c) q → (d : ConnectionState) × (Some q ≡ Some (Talking d)) × SameTalk c d
 same-second q c same = grind (arith, common_steps)
 
+-- the links without a session are as they were
+same-link : (me : CallSign) (k : ℕ) (store : StoreState) (p q : Place) → SamePlace p q → HasLink me k store p → HasLink me k store q
+same-link me k store p q same has = grind (arith, common_steps)
+
+same-links : (me : CallSign) (k : ℕ) (store : StoreState) (ps qs : List Place) → SamePlaces ps qs → All (HasLink me k store) ps → All (HasLink me k store) qs
+same-links me k store [] [] same all = All-nil (HasLink me k store)
+same-links me k store [] (q ∷ qs) same all = absurd same
+same-links me k store (p ∷ ps) [] same all = absurd same
+same-links me k store (p ∷ ps) (q ∷ qs) same all =
+    All-cons (HasLink me k store) q qs (same-link me k store p q same.0 (all 0 p (omega arith))) (same-links me k store ps qs same.1 (λ i d lt. all (suc i) d (omega (arith, lt))))
+
 same-get : (ps qs : List Place) (i : ℕ) (d : ConnectionState) → SamePlaces ps qs → IsAt qs i d → (c : ConnectionState) × IsAt ps i c × SameTalk c d
 same-get [] [] i d same at = absurd (never (Talking d) at)
 same-get [] (q ∷ qs) i d same at = absurd same
@@ -152,4 +164,5 @@ settled-same me k store ps qs same was =
             λ i c at theirs. let d = same-back ps qs i c same at in let own = is.0 i d.0 d.1 in grind (arith, common_steps),
             λ nobody_has. is.1 (λ i d at theirs. let c = same-get ps qs i d same at in nobody_has i c.0 c.1 (grind (arith, common_steps))),
           );
+      vacant = same-links me k store ps qs same was.vacant;
     }

@@ -4,8 +4,10 @@ use Rattle.std.proofs.Common.{◌≡◌, List, [], Bool, true, false, sym, ◌�
 use Rattle.std.specs.Prelude.{⊤, Result, Ok, Err}
 use Rattle.px_base.specs.CallSign.{CallSign}
 use Rattle.disk_model.specs.declared.disk.Disk.{Ghosts}
-use Rattle.ax25_link.specs.Kept.{StandsFor}
+use Rattle.ax25_link.specs.declared.state.LinkState.TheVariants.{Down}
+use Rattle.ax25_link.specs.Kept.{SameStations, StandsFor}
 use Rattle.ax25_link.specs.Window.{Window}
+use Rattle.packet_link.specs.PacketLink.{PacketLinkState}
 use Rattle.file_store.specs.State.{StoreState}
 use Rattle.ftl0_session.specs.Lists.Lists.{CallerList}
 use Rattle.file_store.proofs.Offered.{among-parked, on_parked}
@@ -14,8 +16,7 @@ use Rattle.ftl0_session.specs.Uploads.Others.{KeepsOtherCallers}
 use Rattle.disk_model.specs.AtDisk.{AtDisk, at}
 use Rattle.ftl0_session.specs.Uploads.SessionState.{IsOnlyOut}
 use Rattle.ftl0_session.specs.SessionState.{caller_of, working_on}
-use Rattle.disk_model.specs.declared.halt.Halt.{Halt as Stop}
-use Rattle.disk_model.specs.declared.halt.Halt.TheVariants as stop
+use Rattle.disk_model.specs.declared.disk.DiskFault.{DiskFault}
 use Rattle.ftl0_server.specs.Connection.ConnectionState.{ConnectionState, Hears, HearsBy, IsConnection, with_reads}
 use Rattle.ftl0_server.specs.declared.connection.fate.Fate.{Fate}
 use Rattle.ftl0_server.specs.declared.connection.fate.Fate.TheVariants.{Ends, Stays}
@@ -23,9 +24,10 @@ use Rattle.ftl0_server.specs.Connection.Connected.{Connected}
 use Rattle.ftl0_server.specs.Connection.Hearing.{Happened}
 use Rattle.ftl0_server.specs.AtPlace.{GivesUp, IsOver, IsPlace, PlaceHears, PlaceHearsBy, Works}
 use Rattle.ftl0_server.specs.declared.place.Place.{Place}
-use Rattle.ftl0_server.specs.declared.place.Place.TheVariants.{Leaving, Talking}
+use Rattle.ftl0_server.specs.declared.place.Place.TheVariants.{Vacant, Talking}
 use Rattle.ftl0_server.specs.ServerState.{SendsAs}
 use Rattle.ftl0_server.specs.Slots.{connected, left_by, slot_after}
+use Rattle.ftl0_server.proofs.connection.HearLemmas.{parks-same}
 
 -- What two events one after another leave of the files of other callers.
 pub others-then : (before mid now : StoreState) (caller : CallSign) → KeepsOtherCallers before mid caller → KeepsOtherCallers mid now caller
@@ -34,27 +36,25 @@ others-then before mid now caller first second = grind (arith, common_steps)
 
 -- Where the session is over its upload is parked, and the link left.
 module _ {D : Type 0} (g : Ghosts D) (w : Window) (event : List Failure → Happened) (store mid now : StoreState) (lists : List CallerList) (disk disk_now : D)
-    (connection : ConnectionState) (gives_up : GivesUp mid now) where
-  left : (happened : Happened) → happened.over ≡ true → StandsFor w connection.link happened.after.end
-      → SendsAs w (Leaving connection.link) (slot_after happened)
-  left happened over stands = subst (λ (b : Bool). SendsAs w (Leaving connection.link) (left_by b happened.after)) (sym over) stands
+    (connection : ConnectionState) (gives_up : GivesUp mid now) (link : PacketLinkState) (same : link.link ≡ connection.link) where
+  left : (happened : Happened) → happened.over ≡ true → StandsFor w connection.link happened.after.end → SendsAs w (Vacant link) (slot_after happened)
+  left happened over stands = subst (λ (b : Bool). SendsAs w (Vacant link) (left_by b happened.after)) (sym over) (rw (sym same) at stands)
 
-  heard-over : (result : Result ⊤ Stop) → HearsBy g w event (at store disk) (working_on mid lists disk_now) connection Ends result
-      → PlaceHearsBy g w event (at store disk) (working_on now lists disk_now) (Leaving connection.link) result
+  heard-over : (result : Result ⊤ DiskFault) → HearsBy g w event (at store disk) (working_on mid lists disk_now) connection Ends result
+      → PlaceHearsBy g w event (at store disk) (working_on now lists disk_now) (Vacant link) result
   heard-over (Ok done) by = (
     by.0,
     by.1.0,
     (left (event []) by.1.1.0 by.1.1.1, tt),
     among-parked g ⊥ (event []).missed store mid now disk disk_now (event []).done gives_up.entries gives_up.journal by.2,
   )
-  heard-over (Err stop.Disk) by =
+  heard-over (Err fault) by =
       let then_is : AtDisk StoreState D = by.3.then_is in (
         by.0,
         by.1,
         left (event (failed_write by.0)) by.2.1.0 by.2.1.1,
         record { then_is = then_is; first = by.3.first; second = among-parked g ⊤ 0 then_is.it mid now then_is.disk disk_now (event (failed_write by.0)).cut gives_up.entries gives_up.journal by.3.second },
       )
-  heard-over (Err stop.OutOfMemory) by = grind (arith, common_steps)
 
 -- Where it goes on so does the connection.
 module _ {D : Type 0} (g : Ghosts D) (w : Window) (event : List Failure → Happened) (store now : StoreState) (lists : List CallerList) (disk disk_now : D)
@@ -63,28 +63,27 @@ module _ {D : Type 0} (g : Ghosts D) (w : Window) (event : List Failure → Happ
       → IsPlace w now (Talking connection) (slot_after happened)
   going happened over is = grind (arith, common_steps)
 
-  heard-on : (result : Result ⊤ Stop) → HearsBy g w event (at store disk) (working_on now lists disk_now) connection Stays result
+  heard-on : (result : Result ⊤ DiskFault) → HearsBy g w event (at store disk) (working_on now lists disk_now) connection Stays result
       → PlaceHearsBy g w event (at store disk) (working_on now lists disk_now) (Talking connection) result
   heard-on (Ok done) by = (by.0, by.1.0, going (event []) by.1.1.0 by.1.1.1, by.2)
-  heard-on (Err stop.Disk) by = (by.0, by.1, (going (event (failed_write by.0)) by.2.1.0 by.2.1.1).0, by.3)
-  heard-on (Err stop.OutOfMemory) by = (by.0, by.1, by.3)
+  heard-on (Err fault) by = (by.0, by.1, (going (event (failed_write by.0)) by.2.1.0 by.2.1.1).0, by.3)
 
 -- its session is over
 pub hears-over : {D : Type 0} (g : Ghosts D) (w : Window) (event : List Failure → Happened) (store mid now : StoreState) (lists : List CallerList) (disk disk_now : D) (connection : ConnectionState)
-    (told : Fate × Result ⊤ Stop) → GivesUp mid now → told.0 ≡ Ends → Hears g w event (at store disk) (working_on mid lists disk_now) connection told
-    → PlaceHears g w event (at store disk) (working_on now lists disk_now) (Leaving connection.link) told.1
-hears-over g w event store mid now lists disk disk_now connection told gives_up ends heard =
+    (link : PacketLinkState) → link.link ≡ connection.link → (told : Fate × Result ⊤ DiskFault) → GivesUp mid now → told.0 ≡ Ends
+    → Hears g w event (at store disk) (working_on mid lists disk_now) connection told → PlaceHears g w event (at store disk) (working_on now lists disk_now) (Vacant link) told.1
+hears-over g w event store mid now lists disk disk_now connection link same told gives_up ends heard =
     let here : Fate → Type 0 = λ fate. HearsBy g w (with_reads event heard.parts) (at store disk) (working_on mid lists disk_now) connection fate told.1 in
     record {
       parts = heard.parts;
-      by = heard-over g w (with_reads event heard.parts) store mid now lists disk disk_now connection gives_up told.1 (subst here ends heard.by);
+      by = heard-over g w (with_reads event heard.parts) store mid now lists disk disk_now connection gives_up link same told.1 (subst here ends heard.by);
       since = heard.since;
       store = λ fine. on_parked g mid now disk_now gives_up.entries ∙ heard.store fine;
     }
 
 -- it goes on
 pub hears-on : {D : Type 0} (g : Ghosts D) (w : Window) (event : List Failure → Happened) (store now : StoreState) (lists : List CallerList) (disk disk_now : D) (connection : ConnectionState)
-    (told : Fate × Result ⊤ Stop) → told.0 ≡ Stays → Hears g w event (at store disk) (working_on now lists disk_now) connection told
+    (told : Fate × Result ⊤ DiskFault) → told.0 ≡ Stays → Hears g w event (at store disk) (working_on now lists disk_now) connection told
     → PlaceHears g w event (at store disk) (working_on now lists disk_now) (Talking connection) told.1
 hears-on g w event store now lists disk disk_now connection told stays heard =
     let here : Fate → Type 0 = λ fate. HearsBy g w (with_reads event heard.parts) (at store disk) (working_on now lists disk_now) connection fate told.1 in
@@ -102,7 +101,8 @@ talks-as w store place connection d is here =
     let talks = subst (λ (p : Place). IsPlace w store p (connected d)) is here in record { link = talks.0; rest = talks.1.rest; state = talks.1.state }
 
 -- an event ends the session at a place
-pub works-over : (before mid now : StoreState) (old then : ConnectionState) → caller_of then.session ≡ caller_of old.session
-    → KeepsOtherCallers before mid (caller_of old.session) → IsOnlyOut mid then.session.uploads → IsOver mid now then
-    → Works before now (Talking old) (Leaving then.link)
-works-over before mid now old then caller others only over = grind (arith, common_steps)
+pub works-over : (before mid now : StoreState) (old then : ConnectionState) (link : PacketLinkState) → caller_of then.session ≡ caller_of old.session
+    → KeepsOtherCallers before mid (caller_of old.session) → IsOnlyOut mid then.session.uploads → IsOver mid now then → link.link ≡ then.link
+    → SameStations old.link then.link → (mid.journal.failed ≡ false → then.link.state ≡ Down) → Works before now (Talking old) (Vacant link)
+works-over before mid now old then link caller others only over same stations down =
+    let gives_up = parks-same mid now then.session.uploads.phase over.parks in grind (arith, common_steps)

@@ -1,26 +1,33 @@
 -- A connection is seated at a place that has no session.
 use Rattle.std.proofs.lemmas.Grind.{common_steps}
-use Rattle.std.proofs.Common.{◌≡◌, ◌≢◌, ℕ, zero, suc, ◌+◌, ◌<◌, List, [], ◌∷◌, length, set, cond, Bool, true, false, not, Option, None, Some, refl, sym, ◌∙◌, subst, inl, inr, arith}
+use Rattle.std.proofs.Common.{◌≡◌, ◌≢◌, ℕ, zero, suc, ◌+◌, ◌<◌, List, [], ◌∷◌, length, set, cond, get_or, Bool, true, false, not, Option, None, Some, refl, sym, ◌∙◌, ap, subst, inl, inr, arith}
 use Rattle.std.specs.Prelude.{slice_get}
 use Rattle.std.specs.List.{position, prefix_len}
 use Rattle.std.proofs.lemmas.Bool.{lt-ltb}
+use Rattle.std.proofs.lemmas.List.Elements.{All-get_or, All-set}
+use Rattle.std.proofs.lemmas.Option.{slice_get-get_or}
 use Rattle.px_base.specs.CallSign.{CallSign}
+use Rattle.ax25_link.specs.Kept.{Kept, is_pending}
 use Rattle.ax25_link.proofs.Offered.{slice_get-set_other, slice_get-set_same}
+use Rattle.packet_link.specs.PacketLink.{PacketLinkState}
 use Rattle.file_store.specs.State.{StoreState}
 use Rattle.file_store.specs.Store.{Store}
 use Rattle.ftl0_session.specs.Uploads.SessionState.{NoOtherOut, number_of}
 use Rattle.ftl0_session.proofs.uploads.UploadRows.{same_call-decides}
-use Rattle.ftl0_session.specs.SessionState.{caller_of}
-use Rattle.ftl0_server.specs.Connection.Connected.{Connected}
-use Rattle.ftl0_server.specs.Connection.ConnectionState.{ConnectionState, IsConnection}
+use Rattle.ftl0_session.specs.Lists.Lists.{has_left}
+use Rattle.ftl0_session.specs.SessionState.{SessionState, caller_of}
+use Rattle.ftl0_server.specs.AtPlace.{HasBegun, MayBegin}
+use Rattle.ftl0_server.specs.Calls.{AwaitsStranger}
+use Rattle.ftl0_server.specs.Connection.Connected.{Connected, answering}
+use Rattle.ftl0_server.specs.Connection.ConnectionState.{ConnectionState, IsAnswered, IsConnection}
 use Rattle.ftl0_server.specs.declared.place.Place.{Place}
-use Rattle.ftl0_server.specs.declared.place.Place.TheVariants.{Talking}
-use Rattle.ftl0_server.specs.Calls.{IsNew}
-use Rattle.ftl0_server.specs.Kept.{IsAt, IsSeated, IsSettled, IsUploadOf}
-use Rattle.ftl0_server.specs.Server.{Server, with_slot}
-use Rattle.ftl0_server.specs.ServerState.{IsServer, ServerState, has_caller}
+use Rattle.ftl0_server.specs.declared.place.Place.TheVariants.{Moving, Talking, Vacant}
+use Rattle.ftl0_server.specs.Kept.{HasLink, IsAt, IsSeated, IsSettled, IsUploadOf, IsVacant}
+use Rattle.ftl0_server.specs.Server.{Server, called_by, with_slot}
+use Rattle.ftl0_server.specs.ServerState.{IsServer, ServerState, has_caller, is_empty_place, place_pending}
 use Rattle.ftl0_server.specs.Slots.{connected}
 use Rattle.ftl0_server.proofs.AllPlaces.{all-set, never}
+use Rattle.ftl0_server.proofs.HearLemmas.{found-passes, found-within, quiet-any}
 use Rattle.ftl0_server.proofs.SettledLemmas.{at-set, same-call}
 
 -- ---- a caller that no place has
@@ -80,14 +87,62 @@ module _ (me : CallSign) (k : ℕ) (store : StoreState) (places : List Place) (i
       ]
 
   pub settled-seat : IsSettled me k store (set places i (Talking c))
-  settled-seat = record { good = settled.good; seated = seats-seated; distinct = seats-distinct; only = seats-only }
+  settled-seat = record { good = settled.good; seated = seats-seated; distinct = seats-distinct; only = seats-only; vacant = All-set (HasLink me k store) places i (Talking c) tt settled.vacant }
 
 -- a new connection of a server's is seated
-pub new-seated : (self : ServerState) (c : ConnectionState) → IsNew self c → IsSeated self.me self.k self.store c
-new-seated self c new = grind (arith, common_steps)
+new-seated : (me : CallSign) (k : ℕ) (store : StoreState) (link : Kept) (caller : CallSign) (poll : Bool) (moment : ℕ) (left : Bool) (c : ConnectionState) → IsVacant me k store link
+    → IsAnswered link caller poll moment left c → IsSeated me k store c
+new-seated me k store link caller poll moment left c vacant answered = grind (arith, common_steps)
 
 -- the server with a new connection at this place
-pub server-seated : (over : Store) (old : ServerState) (server : Server) (place : ℕ) (c : ConnectionState) (d : Connected) → IsServer over old server
+server-seated : (over : Store) (old : ServerState) (server : Server) (place : ℕ) (c : ConnectionState) (d : Connected) → IsServer over old server
     → IsConnection server.window old.store c d
     → IsServer over (record old { places = set old.places place (Talking c) }) (with_slot server place (connected d))
 server-seated over old server place c d is talks = grind (arith, common_steps, all-set)
+
+-- ---- a session begins at the place that was found
+
+vacant-here : (me : CallSign) (k : ℕ) (store : StoreState) (p : Place) → is_empty_place p ≡ true → HasLink me k store p → place_pending p ≡ false
+    → (link : PacketLinkState) × (p ≡ Vacant link) × IsVacant me k store link.link × (is_pending link.link ≡ false)
+vacant-here me k store Moving empty has quiet = absurd has
+vacant-here me k store (Talking c) empty has quiet = absurd cc
+vacant-here me k store (Vacant link) empty has quiet = (link, refl, has, quiet)
+
+module _ (old : ServerState) (caller : CallSign) (place : ℕ) (d : Place) (found : position is_empty_place old.places ≡ Some place) (awaits : AwaitsStranger old caller)
+    (settled : IsSettled old.me old.k old.store old.places) where
+  abbrev within : place < length old.places
+  within = found-within is_empty_place old.places place found
+
+  at : slice_get old.places place ≡ Some (get_or old.places place d)
+  at = slice_get-get_or old.places place d within
+
+  vacant : (link : PacketLinkState) × (get_or old.places place d ≡ Vacant link) × IsVacant old.me old.k old.store link.link × (is_pending link.link ≡ false)
+  vacant =
+      vacant-here old.me old.k old.store (get_or old.places place d) (found-passes is_empty_place old.places place d found)
+      (All-get_or (HasLink old.me old.k old.store) old.places place d within settled.vacant) (quiet-any old.places place (get_or old.places place d) at awaits.quiet)
+
+  pub may-begin : MayBegin (get_or old.places place d)
+  may-begin = rw vacant.1 (vacant.2.down awaits.healthy, vacant.3)
+
+  module _ (poll : Bool) (moment : ℕ) (new : Place) (begun : HasBegun caller poll moment (has_left old.lists caller) (get_or old.places place d) new) where
+    answered : (c : ConnectionState) × (new ≡ Talking c) × IsAnswered vacant.0.link caller poll moment (has_left old.lists caller) c
+    answered = rw vacant.1 at begun
+
+    no-one : (e : ConnectionState) → IsAt old.places place e → ⊥
+    no-one e there = let same : Some (Talking e) ≡ Some (Vacant vacant.0) = sym there ∙ at ∙ ap (λ (p : Place). Some p) vacant.1 in cc
+
+    pub begun-settled : IsSettled old.me old.k old.store (set old.places place new)
+    begun-settled =
+        let c = answered.0 in
+        let own : caller_of c.session ≡ caller = ap caller_of answered.2.session in
+        rw answered.1
+        (settled-seat old.me old.k old.store old.places place c within no-one settled (λ j e there same. nobody caller old.places awaits.stranger j e there (same ∙ own))
+        (new-seated old.me old.k old.store vacant.0.link caller poll moment (has_left old.lists caller) c vacant.2 answered.2) (ap (λ (s : SessionState). number_of s.uploads.phase) answered.2.session))
+
+    pub begun-server : (over : Store) (server : Server) → IsServer over old server
+        → IsServer over (record old { places = set old.places place new }) (called_by server caller poll moment (Some place))
+    begun-server over server is =
+        let c = answered.0 in
+        let answer = answering server.me caller poll moment (has_left server.lists caller) in
+        let first = answered.2.stands old.store in
+        let talks : IsConnection server.window old.store c answer = grind (arith, common_steps) in rw answered.1 (server-seated over old server place c answer is talks)

@@ -1,12 +1,13 @@
 -- What holds of each server stays so, whatever happens at one place.
 use Rattle.std.proofs.lemmas.Grind.{common_steps}
-use Rattle.std.proofs.Common.{◌≡◌, ◌≢◌, ◌⊎◌, ℕ, zero, suc, ◌<◌, List, [], ◌∷◌, length, set, Bool, true, false, Option, rules, None, Some, refl, sym, ◌∙◌, ap, subst, inl, inr, arith}
+use Rattle.std.proofs.Common.{◌≡◌, ◌≢◌, ◌⊎◌, ℕ, zero, suc, ◌<◌, List, [], ◌∷◌, length, get_or, set, Bool, true, false, Option, rules, None, Some, refl, sym, ◌∙◌, ap, subst, inl, inr, arith}
 use Rattle.std.specs.Prelude.{slice_get}
 use Rattle.std.proofs.lemmas.Bool.Decides.{eqb_tells}
+use Rattle.std.proofs.lemmas.List.Elements.{All-set}
 use Rattle.std.proofs.lemmas.Option.{same_Some, slice_get_within}
 use Rattle.px_base.specs.CallSign.{CallSign}
-use Rattle.ax25_link.specs.Kept.{Kept}
 use Rattle.ax25_link.proofs.Offered.{slice_get-set_other, slice_get-set_same}
+use Rattle.packet_link.specs.PacketLink.{PacketLinkState}
 use Rattle.file_store.specs.EntriesKept.{KeepsComplete}
 use Rattle.file_store.specs.Store.{partial}
 use Rattle.file_store.specs.State.{StoreState, store_in}
@@ -20,10 +21,10 @@ use Rattle.ftl0_session.proofs.uploads.UploadRows.{same_call-decides}
 use Rattle.ftl0_session.proofs.downloads.DueLemmas.{due-kept}
 use Rattle.ftl0_session.specs.SessionState.{caller_of}
 use Rattle.ftl0_server.specs.Connection.ConnectionState.{ConnectionState}
-use Rattle.ftl0_server.specs.AtPlace.{GoesOn, Works}
+use Rattle.ftl0_server.specs.AtPlace.{GoesOn, IsVacated, Works}
 use Rattle.ftl0_server.specs.declared.place.Place.{Place}
-use Rattle.ftl0_server.specs.declared.place.Place.TheVariants.{Free, Talking, Leaving}
-use Rattle.ftl0_server.specs.Kept.{IsAt, IsSeated, IsSettled, IsUploadOf}
+use Rattle.ftl0_server.specs.declared.place.Place.TheVariants.{Moving, Talking, Vacant}
+use Rattle.ftl0_server.specs.Kept.{HasLink, IsAt, IsSeated, IsSettled, IsUploadOf, IsVacant}
 use Rattle.ftl0_server.specs.ServerState.{SaysAs}
 use Rattle.ftl0_server.specs.Slots.{Slot}
 
@@ -60,7 +61,7 @@ pub at-set : (places : List Place) (i j : ℕ) (p : Place) (c : ConnectionState)
 at-set places i j p c within at =
     grind (arith, common_steps, eqb_tells, same_Some, slice_get-set_same, slice_get-set_other)
 
-pub leaving-no : (link : Kept) (c : ConnectionState) → Leaving link ≡ Talking c → ⊥
+pub leaving-no : (link : PacketLinkState) (c : ConnectionState) → Vacant link ≡ Talking c → ⊥
 leaving-no link c same = cc
 
 -- ---- an event at the place of a connection
@@ -74,7 +75,7 @@ module _ (me : CallSign) (k : ℕ) (before now : StoreState) (places : List Plac
   pub other-caller : (j : ℕ) (c : ConnectionState) → j ≢ i → IsAt places j c → caller_of c.session ≢ caller_of old.session
   other-caller j c ne there same = ne (settled.distinct j i c old there at same)
 
-  module _ (complete : KeepsComplete (store_in before) (store_in now)) where
+  module _ (complete : KeepsComplete (store_in before) (store_in now)) (healthy : now.journal.failed ≡ false → before.journal.failed ≡ false) where
     -- it is seated still
     pub seated-kept : (j : ℕ) (c : ConnectionState) → j ≢ i → IsAt places j c → IsSeated me k now c
     seated-kept j c ne there =
@@ -82,10 +83,17 @@ module _ (me : CallSign) (k : ℕ) (before now : StoreState) (places : List Plac
         let held = held-kept before now (caller_of old.session) others (caller_of c.session) (other-caller j c ne there) c.session.uploads.phase was.held in
         let due = (due-kept (store_in before) (store_in now) c.session.downloads complete was.due).0 in grind (arith, common_steps)
 
+    -- its link is kept
+    link-kept : (p : Place) → HasLink me k before p → HasLink me k now p
+    link-kept Moving has = has
+    link-kept (Talking c) has = has
+    link-kept (Vacant link) has = record { me_is = has.me_is; k_is = has.k_is; down = λ fine. has.down (healthy fine) }
+
     -- the place is this one now
     module _ (p : Place) (same : (c : ConnectionState) → p ≡ Talking c → caller_of c.session ≡ caller_of old.session)
         (seat : (c : ConnectionState) → p ≡ Talking c → IsSeated me k now c)
-        (own : (number : Option ℕ) → IsUploadOf (set places i p) (caller_of old.session) number → NoOtherOut now (caller_of old.session) number) where
+        (own : (number : Option ℕ) → IsUploadOf (set places i p) (caller_of old.session) number → NoOtherOut now (caller_of old.session) number)
+        (link : HasLink me k now p) where
       set-seated : (j : ℕ) (c : ConnectionState) → IsAt (set places i p) j c → IsSeated me k now c
       set-seated j c there = let cases = at-set places i j p c within there in grind (arith, common_steps, seated-kept)
 
@@ -112,6 +120,7 @@ module _ (me : CallSign) (k : ℕ) (before now : StoreState) (places : List Plac
               | inr ne ↦
                   out-kept before now (caller_of old.session) others caller number ne (settled.only caller number (set-upload caller number ne is))
             ];
+        vacant = All-set (HasLink me k now) places i p link (λ j d lt. link-kept (get_or places j d) (settled.vacant j d lt));
       }
 
 -- a place that is what it was
@@ -123,7 +132,7 @@ set-get (y ∷ ys) (suc i) x at = ap (λ zs. y ∷ zs) (set-get ys i x at)
 -- the connection goes on
 module _ (me : CallSign) (k : ℕ) (before now : StoreState) (places : List Place) (i : ℕ) (c : ConnectionState) (at : IsAt places i c)
     (settled : IsSettled me k before places) (others : KeepsOtherCallers before now (caller_of c.session))
-    (complete : KeepsComplete (store_in before) (store_in now)) where
+    (complete : KeepsComplete (store_in before) (store_in now)) (healthy : now.journal.failed ≡ false → before.journal.failed ≡ false) where
   goes_on-seat : (d : ConnectionState) → GoesOn now c d → (e : ConnectionState) → Talking d ≡ Talking e → IsSeated me k now e
   goes_on-seat d on e is = grind (arith, common_steps)
 
@@ -140,13 +149,17 @@ module _ (me : CallSign) (k : ℕ) (before now : StoreState) (places : List Plac
   settled-goes_on d on = search (rules, arith, settled-set, goes_on-same, goes_on-seat, goes_on-own)
 
   -- its session is over
-  over-own : (link : Kept) → NoOtherOut now (caller_of c.session) None → (number : Option ℕ) → IsUploadOf (set places i (Leaving link)) (caller_of c.session) number
+  over-own : (link : PacketLinkState) → NoOtherOut now (caller_of c.session) None → (number : Option ℕ) → IsUploadOf (set places i (Vacant link)) (caller_of c.session) number
       → NoOtherOut now (caller_of c.session) number
   over-own link only number is = grind (arith, common_steps)
 
-  pub settled-over : (link : Kept) → NoOtherOut now (caller_of c.session) None → IsSettled me k now (set places i (Leaving link))
-  settled-over link only =
-      settled-set me k before now places i c at settled others complete (Leaving link) (λ e is. absurd (leaving-no link e is)) (λ e is. absurd (leaving-no link e is)) (over-own link only)
+  over-link : (link : PacketLinkState) → IsVacated now c link.link → IsVacant me k now link.link
+  over-link link over = let seat = settled.seated i c at in grind (arith, common_steps)
+
+  pub settled-over : (link : PacketLinkState) → IsVacated now c link.link → IsSettled me k now (set places i (Vacant link))
+  settled-over link over =
+      settled-set me k before now places i c at settled others complete healthy (Vacant link) (λ e is. absurd (leaving-no link e is)) (λ e is. absurd (leaving-no link e is))
+      (over-own link over.only) (over-link link over)
 
 -- nothing changes
 unchanged : (me : CallSign) (k : ℕ) (before now : StoreState) (places : List Place) (i : ℕ) (old new : Place) → slice_get places i ≡ Some old
@@ -155,12 +168,13 @@ unchanged me k before now places i old new at settled store same = grind (arith,
 
 -- whatever the place becomes
 pub settled-works : (me : CallSign) (k : ℕ) (before now : StoreState) (places : List Place) (i : ℕ) (old new : Place) → slice_get places i ≡ Some old
-    → IsSettled me k before places → Works before now old new → KeepsComplete (store_in before) (store_in now) → IsSettled me k now (set places i new)
-settled-works me k before now places i Free new at settled works complete = unchanged me k before now places i Free new at settled works.0 works.1
-settled-works me k before now places i (Talking c) Free at settled works complete = absurd works.1
-settled-works me k before now places i (Talking c) (Talking d) at settled works complete = settled-goes_on me k before now places i c at settled works.0 complete d works.1
-settled-works me k before now places i (Talking c) (Leaving link) at settled works complete = settled-over me k before now places i c at settled works.0 complete link works.1
-settled-works me k before now places i (Leaving link) new at settled works complete = unchanged me k before now places i (Leaving link) new at settled works.0 works.1
+    → IsSettled me k before places → Works before now old new → KeepsComplete (store_in before) (store_in now)
+    → (now.journal.failed ≡ false → before.journal.failed ≡ false) → IsSettled me k now (set places i new)
+settled-works me k before now places i Moving new at settled works complete healthy = unchanged me k before now places i Moving new at settled works.0 works.1
+settled-works me k before now places i (Talking c) Moving at settled works complete healthy = absurd works.1
+settled-works me k before now places i (Talking c) (Talking d) at settled works complete healthy = settled-goes_on me k before now places i c at settled works.0 complete healthy d works.1
+settled-works me k before now places i (Talking c) (Vacant link) at settled works complete healthy = settled-over me k before now places i c at settled works.0 complete healthy link works.1
+settled-works me k before now places i (Vacant link) new at settled works complete healthy = unchanged me k before now places i (Vacant link) new at settled works.0 works.1
 
 -- what another place is doesn't change
 pub says-kept : (me : CallSign) (k : ℕ) (before now : StoreState) (places : List Place) (i : ℕ) (old new : Place) → slice_get places i ≡ Some old

@@ -11,7 +11,7 @@ use Rattle.ftl0_session.specs.SessionState.{caller_of}
 use Rattle.ftl0_server.specs.Connection.ConnectionState.{ConnectionState}
 use Rattle.ftl0_server.specs.AtPlace.{IsPlace, MayTick, Works}
 use Rattle.ftl0_server.specs.declared.place.Place.{Place}
-use Rattle.ftl0_server.specs.declared.place.Place.TheVariants.{Free, Talking, Leaving}
+use Rattle.ftl0_server.specs.declared.place.Place.TheVariants.{Moving, Talking, Vacant}
 use Rattle.ftl0_server.specs.Kept.{IsAt, IsSettled}
 use Rattle.ftl0_server.specs.ServerState.{AllPlaces, any_pending, place_pending}
 use Rattle.ftl0_server.specs.Slots.{Slot, slot_ticking}
@@ -64,12 +64,12 @@ quiet-at (p ∷ ps) (suc i) place at none = quiet-at ps i place at none
 
 pub may-tick : (me : CallSign) (k : ℕ) (store : StoreState) (places : List Place) (i : ℕ) (place : Place) → slice_get places i ≡ Some place
     → IsSettled me k store places → any_pending (drop i places) ≡ false → MayTick store place
-may-tick me k store places i Free at settled none = tt
+may-tick me k store places i Moving at settled none = tt
 may-tick me k store places i (Talking c) at settled none =
     let seated = settled.seated i c at in
     let only = own-only me k store places i c at settled in
     let quiet = quiet-at places i (Talking c) at none in grind (arith, common_steps)
-may-tick me k store places i (Leaving link) at settled none = tt
+may-tick me k store places i (Vacant link) at settled none = tt
 
 -- the places behind it are as they were
 pub quiet-later : (places : List Place) (i : ℕ) (new : Place) → any_pending (drop i places) ≡ false → any_pending (drop (suc i) (set places i new)) ≡ false

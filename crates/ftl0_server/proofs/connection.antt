@@ -1,7 +1,7 @@
 mod AnswerLemmas
 mod DueLemmas
 mod FailureLemmas
-mod FeedLemmas
+pub mod FeedLemmas
 pub mod HearLemmas
 mod HearsLemmas
 mod Invariants

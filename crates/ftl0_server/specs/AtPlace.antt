@@ -1,10 +1,11 @@
 -- What an event at one place of a server needs, and what it leaves.
-use Rattle.std.specs.Prelude.{◌≡◌, ◌⊎◌, ℕ, List, [], ◌∷◌, false, slice_get, None, Some, Result, Ok, Err, ⊤}
+use Rattle.std.specs.Prelude.{◌≡◌, ◌⊎◌, ℕ, List, [], ◌∷◌, Bool, false, slice_get, None, Some, Result, Ok, Err, ⊤}
+use Rattle.px_base.specs.CallSign.{CallSign}
 use Rattle.disk_model.specs.declared.disk.Disk.{Ghosts}
 use Rattle.ax25_frames.specs.FrameText.{FrameValue}
-use Rattle.ax25_link.specs.Kept.{Fits, IsFromPeer, SameStations, is_pending}
+use Rattle.ax25_link.specs.Kept.{Fits, IsFromPeer, Kept, SameStations, is_pending}
 use Rattle.ax25_link.specs.Window.{Window}
-use Rattle.ax25_link.specs.declared.state.LinkState.TheVariants.{Up}
+use Rattle.ax25_link.specs.declared.state.LinkState.TheVariants.{Up, Down}
 use Rattle.file_store.specs.Calls.{Leaves}
 use Rattle.file_store.specs.Command.{after_all}
 use Rattle.file_store.specs.EntriesKept.{KeepsComplete}
@@ -18,14 +19,14 @@ use Rattle.disk_model.specs.AtDisk.{AtDisk, at}
 use Rattle.ftl0_session.specs.Uploads.SessionState.{IsHeld, IsOnlyOut, NoOtherOut, Parks}
 use Rattle.ftl0_session.specs.Downloads.Needs.{IsDueIn}
 use Rattle.ftl0_session.specs.SessionState.{WorkingOn, caller_of}
-use Rattle.disk_model.specs.declared.halt.Halt.{Halt as Stop}
-use Rattle.disk_model.specs.declared.halt.Halt.TheVariants as stop
-use Rattle.ftl0_server.specs.Connection.ConnectionState.{ConnectionState, with_reads}
+use Rattle.packet_link.specs.PacketLink.{PacketLinkState}
+use Rattle.disk_model.specs.declared.disk.DiskFault.{DiskFault}
+use Rattle.ftl0_server.specs.Connection.ConnectionState.{ConnectionState, IsAnswered, with_reads}
 use Rattle.ftl0_server.specs.Connection.Connected.{Connected}
 use Rattle.ftl0_server.specs.Connection.Hearing.{Happened, LooksAtNone, hearing}
 use Rattle.ftl0_server.specs.Connection.Taking.{fails, goes_on}
 use Rattle.ftl0_server.specs.declared.place.Place.{Place}
-use Rattle.ftl0_server.specs.declared.place.Place.TheVariants.{Free, Talking, Leaving}
+use Rattle.ftl0_server.specs.declared.place.Place.TheVariants.{Moving, Talking, Vacant}
 use Rattle.ftl0_server.specs.ServerState.{SaysAs, SendsAs}
 use Rattle.ftl0_server.specs.Slots.{Slot, connected, slot_after}
 
@@ -53,21 +54,35 @@ pub record IsAwaiting (store : StoreState) (connection : ConnectionState) : Type
 
 -- the place may take a tick
 abbrev pub MayTick : StoreState → Place → Type 0
-MayTick store Free = ⊤
+MayTick store Moving = ⊤
 MayTick store (Talking connection) = IsAwaiting store connection
-MayTick store (Leaving link) = ⊤
+MayTick store (Vacant link) = ⊤
 
 -- the place has the connection of this frame's sender, which may hear it
 abbrev pub MayHear : StoreState → FrameValue → Place → Type 0
-MayHear store frame Free = ⊥
+MayHear store frame Moving = ⊥
 MayHear store frame (Talking connection) = IsAwaiting store connection × IsFromPeer connection.link frame
-MayHear store frame (Leaving link) = ⊥
+MayHear store frame (Vacant link) = ⊥
+
+-- the place may begin a session: it has none, and its link is down, with nothing pending
+abbrev pub MayBegin : Place → Type 0
+MayBegin Moving = ⊥
+MayBegin (Talking connection) = ⊥
+MayBegin (Vacant link) = (link.link.state ≡ Down) × (is_pending link.link ≡ false)
+
+-- the place's link answered a SABM of this caller: the place has the caller's connection
+abbrev pub HasBegun : CallSign → Bool → ℕ → Bool → Place → Place → Type 0
+HasBegun caller poll moment left Moving new = ⊥
+HasBegun caller poll moment left (Talking connection) new = ⊥
+HasBegun caller poll moment left (Vacant link) new =
+    (connection : ConnectionState) × (new ≡ Talking connection)
+    × IsAnswered link.link caller poll moment left connection
 
 -- the place has a connection, and the store holds its session's upload
 abbrev pub MayLeave : StoreState → Place → Type 0
-MayLeave store Free = ⊥
+MayLeave store Moving = ⊥
 MayLeave store (Talking connection) = IsHeld store connection.session.uploads
-MayLeave store (Leaving link) = ⊥
+MayLeave store (Vacant link) = ⊥
 
 -- The connection is of the same stations and the same caller, its link is up, and the store holds its session's upload,
 -- the only one of its caller's that is out, and the complete files of which it sends.
@@ -79,43 +94,46 @@ pub record GoesOn (store : StoreState) (old new : ConnectionState) : Type 0 wher
   pub only : IsOnlyOut store new.session.uploads
   pub due : IsDueIn (store_in store) new.session.downloads
 
--- what is left at the place of this connection: the connection, or its link, where no upload of its caller is out
+-- The session of a connection is over: no upload of its caller is out, and its link, which is of the same stations, is
+-- down, unless the store has failed.
+pub record IsVacated (store : StoreState) (old : ConnectionState) (link : Kept) : Type 0 where
+  pub only : NoOtherOut store (caller_of old.session) None
+  pub stations : SameStations old.link link
+  pub down : store.journal.failed ≡ false → link.state ≡ Down
+
+-- what is left at the place of this connection: the connection, or its link
 abbrev pub IsLeft : StoreState → ConnectionState → Place → Type 0
-IsLeft store old Free = ⊥
+IsLeft store old Moving = ⊥
 IsLeft store old (Talking connection) = GoesOn store old connection
-IsLeft store old (Leaving link) = NoOtherOut store (caller_of old.session) None
+IsLeft store old (Vacant link) = IsVacated store old link.link
 
 -- An event came at a place: the store keeps the uploads of other callers than the connection's. Where there is no
 -- connection nothing changes.
 abbrev pub Works : StoreState → StoreState → Place → Place → Type 0
-Works before now Free new = (now ≡ before) × (new ≡ Free)
+Works before now Moving new = (now ≡ before) × (new ≡ Moving)
 Works before now (Talking connection) new =
     KeepsOtherCallers before now (caller_of connection.session) × IsLeft now connection new
-Works before now (Leaving link) new = (now ≡ before) × (new ≡ Leaving link)
+Works before now (Vacant link) new = (now ≡ before) × (new ≡ Vacant link)
 
 -- What a frame that is heard at a place does, where `event` gives what it makes of the connection there by the writes
 -- and syncs that fail in it: as the connection's call says it, but that the place is the one that is left.
 abbrev pub PlaceHearsBy :
     {D : Type 0} → Ghosts D → Window → (List Failure → Happened) → AtDisk StoreState D → WorkingOn D → Place
-    → Result ⊤ Stop → Type 0
+    → Result ⊤ DiskFault → Type 0
 PlaceHearsBy g w event before now place (Ok done) =
     ((event []).halt ≡ goes_on) × (now.lists ≡ (event []).lists) × IsPlace w now.store place (slot_after (event []))
     × DoesAmongReads g ⊥ (event []).missed before.it now.store before.disk now.disk (event []).done
-PlaceHearsBy g w event before now place (Err stop.Disk) =
+PlaceHearsBy g w event before now place (Err fault) =
     (part : ℕ) × ((event (failed_write part)).halt ≡ fails) × SendsAs w place (slot_after (event (failed_write part)))
     × CutsOffAmongReads g ⊤ (event (failed_write part)).missed before (at now.store now.disk)
     (event (failed_write part)).done (event (failed_write part)).cut
-PlaceHearsBy g w event before now place (Err stop.OutOfMemory) =
-    (part : ℕ) × ((event (failed_write part)).halt ≡ fails)
-    × DoesAmongReads g ⊥ (event (failed_write part)).missed before.it now.store before.disk now.disk
-    (event (failed_write part)).done
 
 -- A frame was heard at a place, of which this is what it makes of the connection there by the failures of the disk;
 -- reads failed at these parts of it. Since it came each image stands for the store after the first of the commands that
 -- it has where no write and no sync fails, for some number of them. Where there was no stop the store is the one after
 -- all of them.
 pub record PlaceHears {D : Type 0} (g : Ghosts D) (w : Window) (event : List Failure → Happened)
-    (before : AtDisk StoreState D) (now : WorkingOn D) (place : Place) (result : Result ⊤ Stop) : Type 0 where
+    (before : AtDisk StoreState D) (now : WorkingOn D) (place : Place) (result : Result ⊤ DiskFault) : Type 0 where
   pub parts : List ℕ
   pub by : PlaceHearsBy g w (with_reads event parts) before now place result
   pub since :
@@ -128,7 +146,7 @@ pub record PlaceHears {D : Type 0} (g : Ghosts D) (w : Window) (event : List Fai
 -- A frame was heard at this moment, of whichever connection the place stood for: where it is known what octets the
 -- files have, or no octet of a file is looked at, it is of that connection what the frame makes.
 abbrev pub PlaceHearsFrame :
-    {D : Type 0} → Ghosts D → ℕ → FrameValue → WorkingOn D → WorkingOn D → Place → Place → Result ⊤ Stop → Type 0
+    {D : Type 0} → Ghosts D → ℕ → FrameValue → WorkingOn D → WorkingOn D → Place → Place → Result ⊤ DiskFault → Type 0
 PlaceHearsFrame g moment frame before now old new result =
     (w : Window) (c : Connected) → IsPlace w before.store old (connected c)
     → IsKnown g before.disk ⊎ LooksAtNone w moment (store_on g before.store before.disk) before.lists c frame
@@ -142,9 +160,9 @@ pub record GivesUp (before now : StoreState) : Type 0 where
 
 -- whatever end the place's link stands for, it is one that frames can bring about
 abbrev pub PlaceFits : Place → Type 0
-PlaceFits Free = ⊤
+PlaceFits Moving = ⊤
 PlaceFits (Talking connection) = Fits connection.link
-PlaceFits (Leaving link) = Fits link
+PlaceFits (Vacant link) = Fits link.link
 
 -- the same of each place
 abbrev pub AllFit : List Place → Type 0
@@ -158,21 +176,22 @@ pub record IsOver (before now : StoreState) (connection : ConnectionState) : Typ
 
 -- the session at the place is over, and its link is left
 abbrev pub HasLeft : StoreState → StoreState → Place → Place → Type 0
-HasLeft before now Free new = ⊥
-HasLeft before now (Talking connection) new = IsOver before now connection × (new ≡ Leaving connection.link)
-HasLeft before now (Leaving link) new = ⊥
+HasLeft before now Moving new = ⊥
+HasLeft before now (Talking connection) new =
+    IsOver before now connection × ((link : PacketLinkState) × (new ≡ Vacant link) × (link.link ≡ connection.link))
+HasLeft before now (Vacant link) new = ⊥
 
 -- the place may be ended: the store holds its session's upload
 abbrev pub MayEnd : StoreState → Place → Type 0
-MayEnd store Free = ⊤
+MayEnd store Moving = ⊤
 MayEnd store (Talking connection) = IsHeld store connection.session.uploads
-MayEnd store (Leaving link) = ⊤
+MayEnd store (Vacant link) = ⊤
 
 -- the session of the place is over, if there was one
 abbrev pub HasEnded : StoreState → StoreState → Place → Type 0
-HasEnded before now Free = now ≡ before
+HasEnded before now Moving = now ≡ before
 HasEnded before now (Talking connection) = IsOver before now connection
-HasEnded before now (Leaving link) = now ≡ before
+HasEnded before now (Vacant link) = now ≡ before
 
 -- the places may be ended, one after another
 abbrev pub MayAllEnd : StoreState → List Place → Type 0

@@ -1,59 +1,50 @@
 -- What a server's calls do.
-use Rattle.std.specs.Prelude.{◌≡◌, ◌⊎◌, ℕ, List, [], ◌∷◌, slice_set, true, false, Bool, Option, None, Some}
-use Rattle.std.specs.Prelude.{Result, Ok, Err, IsErrOf, ⊤}
+use Rattle.std.specs.Prelude.{◌≡◌, ℕ, List, [], ◌∷◌, true, false, Bool, Option, None, Some}
+use Rattle.std.specs.Prelude.{Result, Ok, Err, IsErr, ⊤}
+use Rattle.std.specs.List.{position}
+use Rattle.px_base.specs.CallSign.{CallSign}
 use Rattle.disk_model.specs.AtDisk.{at}
 use Rattle.disk_model.specs.declared.disk.Disk.{Ghosts}
 use Rattle.ax25_frames.specs.FrameText.{FrameText, FrameValue, canonical}
 use Rattle.ax25_frames.specs.Kinds.{FitsControl}
-use Rattle.ax25_link.specs.Kept.{HasStations}
-use Rattle.ax25_link.specs.declared.state.LinkState.TheVariants.{Up}
 use Rattle.file_store.specs.Calls.{Leaves}
 use Rattle.file_store.specs.OnDisk.{MakesFirst}
 use Rattle.file_store.specs.State.{IsKnown, IsReady, store_on}
 use Rattle.file_store.specs.Store.{Store}
 use Rattle.file_store.specs.Working.{CutsOffAmongReads, DoesAmongReads}
 use Rattle.ftl0_session.specs.Uploads.Failures.{Failure, failed_write}
-use Rattle.ftl0_session.specs.SessionState.{caller_of, new_session}
-use Rattle.disk_model.specs.declared.halt.Halt.{Halt as Stop}
-use Rattle.disk_model.specs.declared.halt.Halt.TheVariants as stop
+use Rattle.disk_model.specs.declared.disk.DiskFault.{DiskFault}
 use Rattle.node.specs.Events.{IsFor, NodeEvent}
 use Rattle.ftl0_server.specs.AtPlace.{KeepsStore}
-use Rattle.ftl0_server.specs.Connection.ConnectionState.{ConnectionState, with_reads}
+use Rattle.ftl0_server.specs.Connection.ConnectionState.{with_reads}
 use Rattle.ftl0_server.specs.Connection.Taking.{fails, goes_on}
 use Rattle.ftl0_server.specs.declared.place.Place.{Place}
-use Rattle.ftl0_server.specs.declared.place.Place.TheVariants.{Talking}
 use Rattle.ftl0_server.specs.Places.{SamePlace}
 use Rattle.ftl0_server.specs.Server.{Server, ServerHappened, ServerSends, server_next}
-use Rattle.ftl0_server.specs.ServerState.{IsServer, SendsFor, ServerState, server_pending}
+use Rattle.ftl0_server.specs.ServerState.{IsServer, SendsFor, ServerState, any_pending, has_caller, server_pending}
 use Rattle.ftl0_server.specs.ServerStep.{LooksAtNoFile, happening}
 
 -- What an event does, where `event` gives what it makes of the server by the writes and syncs that fail in it. Where
 -- all was taken none failed, and its commands are done. Where the disk failed, at a write or a sync of some packet and
 -- nowhere else, the commands before it are done, and it failed in one of that packet's; the frames that are pending
--- then are those of that step. Where there was no memory none is done, as for a new session, or, at some packet, those
--- before it. The count of failed reads rose exactly where a part told of one. The disk gets no longer than a store of
--- so many blocks may be, or than it was.
+-- then are those of that step. The count of failed reads rose exactly where a part told of one. The disk gets no longer
+-- than a store of so many blocks may be, or than it was.
 abbrev pub HearsBy :
-    {D : Type 0} → Ghosts D → (List Failure → ServerHappened) → ServerState → ServerState → D → D → Result ⊤ Stop
+    {D : Type 0} → Ghosts D → (List Failure → ServerHappened) → ServerState → ServerState → D → D → Result ⊤ DiskFault
     → Type 0
 HearsBy g event old new disk disk_now (Ok done) =
     ((event []).halt ≡ goes_on) × IsServer (store_on g new.store disk_now) new (event []).after
     × DoesAmongReads g ⊥ (event []).missed old.store new.store disk disk_now (event []).done
-HearsBy g event old new disk disk_now (Err stop.Disk) =
+HearsBy g event old new disk disk_now (Err fault) =
     (part : ℕ) × ((event (failed_write part)).halt ≡ fails) × SendsFor new (event (failed_write part)).after
     × CutsOffAmongReads g ⊤ (event (failed_write part)).missed (at old.store disk) (at new.store disk_now)
     (event (failed_write part)).done (event (failed_write part)).cut
-HearsBy g event old new disk disk_now (Err stop.OutOfMemory) =
-    DoesAmongReads g ⊥ 0 old.store new.store disk disk_now []
-    ⊎ ((part : ℕ) × ((event (failed_write part)).halt ≡ fails)
-    × DoesAmongReads g ⊥ (event (failed_write part)).missed old.store new.store disk disk_now
-    (event (failed_write part)).done)
 
 -- An event came, of which this is what it makes of the server by the failures of the disk; reads failed at these parts
 -- of it. Since it came each image stands for the store after the first of the commands that it has where no write and
 -- no sync fails, for some number of them: that is what a power cut inside it leaves.
 pub record Hears {D : Type 0} (g : Ghosts D) (event : List Failure → ServerHappened) (old new : ServerState)
-    (disk disk_now : D) (result : Result ⊤ Stop) : Type 0 where
+    (disk disk_now : D) (result : Result ⊤ DiskFault) : Type 0 where
   pub parts : List ℕ
   pub by : HearsBy g (with_reads event parts) old new disk disk_now result
   pub since : Leaves g disk disk_now (λ _. MakesFirst (store_on g old.store disk) (with_reads event parts []).done)
@@ -73,14 +64,14 @@ pub record AwaitsFrame {D : Type 0} (g : Ghosts D) (self : ServerState) (disk : 
 -- event makes of that, or it stops; this where it is known what octets the files have, and on every disk where no octet
 -- of a file is looked at. It keeps its store and its call.
 pub record HearsEvent {D : Type 0} (g : Ghosts D) (event : NodeEvent) (old new : ServerState) (disk disk_now : D)
-    (result : Result ⊤ Stop) : Type 0 where
+    (result : Result ⊤ DiskFault) : Type 0 where
   pub hears :
       IsKnown g disk → (server : Server) → IsServer (store_on g old.store disk) old server
       → Hears g (happening server event) old new disk disk_now result
   pub alone :
       (server : Server) → IsServer (store_on g old.store disk) old server → LooksAtNoFile server event
       → Hears g (happening server event) old new disk disk_now result
-  pub keeps : KeepsStore g (IsErrOf result stop.Disk) old.store new.store disk disk_now
+  pub keeps : KeepsStore g (IsErr result) old.store new.store disk disk_now
   pub me : new.me ≡ old.me
 
 -- What is handed out where this is sent next: nothing, and nothing changes; or the octets of its frame in place of
@@ -117,20 +108,13 @@ pub record SameStore (old new : ServerState) : Type 0 where
   pub store : new.store ≡ old.store
   pub me : new.me ≡ old.me
 
--- A frame of a station without a connection makes this of whichever server it was, over whichever store, or there is no
--- memory, and nothing changes.
-abbrev pub HearsStranger : (Server → Server) → ServerState → ServerState → Result ⊤ Stop → Type 0
-HearsStranger step old new (Ok done) =
+-- What a frame of a station needs that has no connection: nothing is to be given out, and the store hasn't failed.
+pub record AwaitsStranger (self : ServerState) (caller : CallSign) : Type 0 where
+  pub stranger : position (has_caller caller) self.places ≡ None
+  pub quiet : any_pending self.places ≡ false
+  pub healthy : self.store.journal.failed ≡ false
+
+-- A frame of a station without a connection makes this of whichever server it was, over whichever store.
+abbrev pub HearsStranger : (Server → Server) → ServerState → ServerState → Type 0
+HearsStranger step old new =
     (store : Store) (server : Server) → IsServer store old server → IsServer store new (step server)
-HearsStranger step old new (Err stop.Disk) = ⊥
-HearsStranger step old new (Err stop.OutOfMemory) = new ≡ old
-
--- A connection of this server's was just answered.
-pub record IsNew (self : ServerState) (connection : ConnectionState) : Type 0 where
-  pub stations : HasStations connection.link false self.me (caller_of connection.session) self.k
-  pub session : connection.session ≡ new_session (caller_of connection.session)
-  pub up : connection.link.state ≡ Up
-
--- The connection is at this place now.
-abbrev pub Seats : ℕ → ConnectionState → ServerState → ServerState → Type 0
-Seats place connection old new = new ≡ record old { places = slice_set old.places place (Talking connection) }

@@ -1,15 +1,16 @@
 -- What each server keeps.
-use Rattle.std.specs.Prelude.{◌≡◌, ◌≢◌, ℕ, List, slice_get, Option, None, Some, false}
+use Rattle.std.specs.Prelude.{◌≡◌, ◌≢◌, ℕ, List, All, slice_get, Option, None, Some, false, ⊤}
 use Rattle.px_base.specs.CallSign.{CallSign}
 use Rattle.ax25_link.specs.Window.{IsGoodK}
-use Rattle.ax25_link.specs.declared.state.LinkState.TheVariants.{Up}
+use Rattle.ax25_link.specs.Kept.{Kept}
+use Rattle.ax25_link.specs.declared.state.LinkState.TheVariants.{Up, Down}
 use Rattle.file_store.specs.State.{StoreState, store_in}
 use Rattle.ftl0_server.specs.Connection.ConnectionState.{ConnectionState}
 use Rattle.ftl0_session.specs.Uploads.SessionState.{IsHeld, NoOtherOut, number_of}
 use Rattle.ftl0_session.specs.Downloads.Needs.{AreComplete, IsDueIn}
 use Rattle.ftl0_session.specs.SessionState.{caller_of}
 use Rattle.ftl0_server.specs.declared.place.Place.{Place}
-use Rattle.ftl0_server.specs.declared.place.Place.TheVariants.{Talking}
+use Rattle.ftl0_server.specs.declared.place.Place.TheVariants.{Moving, Talking, Vacant}
 use Rattle.ftl0_server.specs.declared.server.Server.TheInside.{Inside}
 use Rattle.ftl0_server.specs.ServerState.{ServerState}
 
@@ -42,13 +43,27 @@ IsUploadOf places caller number =
     × (((place : ℕ) (connection : ConnectionState) → IsAt places place connection
     → caller_of connection.session ≢ caller) → number ≡ None)
 
--- Each connection is seated, no caller has two, and of no caller is an upload out but that of its session.
+-- a link without a session is this station's, with this window, and down, unless the store has failed
+pub record IsVacant (me : CallSign) (k : ℕ) (store : StoreState) (link : Kept) : Type 0 where
+  pub me_is : link.me ≡ me
+  pub k_is : link.k ≡ k
+  pub down : store.journal.failed ≡ false → link.state ≡ Down
+
+-- so is the link of a place without a session; and no place's link is under way
+abbrev pub HasLink : CallSign → ℕ → StoreState → Place → Type 0
+HasLink me k store Moving = ⊥
+HasLink me k store (Talking connection) = ⊤
+HasLink me k store (Vacant link) = IsVacant me k store link.link
+
+-- Each connection is seated, no caller has two, and of no caller is an upload out but that of its session. Each place
+-- has its link, and unless the store has failed one without a session may begin one.
 pub record IsSettled (me : CallSign) (k : ℕ) (store : StoreState) (places : List Place) : Type 0 where
   pub good : IsGoodK k
   pub seated :
       (place : ℕ) (connection : ConnectionState) → IsAt places place connection → IsSeated me k store connection
   pub distinct : AreDistinct places
   pub only : (caller : CallSign) (number : Option ℕ) → IsUploadOf places caller number → NoOtherOut store caller number
+  pub vacant : All (HasLink me k store) places
 
 -- some station's places are so, with some window
 abbrev pub IsWorking : StoreState → List Place → Type 0

@@ -1,13 +1,18 @@
 -- What giving out a frame does to a place.
 use Rattle.std.specs.Prelude.{◌≡◌, ℕ, List, Bool, true, false, Option, None, Some, ⊤}
 use Rattle.ax25_frames.specs.FrameText.{FrameText, canonical}
-use Rattle.ax25_link.specs.Kept.{SameStations}
+use Rattle.ax25_link.specs.Kept.{Kept, SameStations}
 use Rattle.ax25_link.specs.Window.{Window}
 use Rattle.ftl0_server.specs.Connection.ConnectionState.{ConnectionState}
 use Rattle.ftl0_server.specs.declared.place.Place.{Place}
-use Rattle.ftl0_server.specs.declared.place.Place.TheVariants.{Free, Talking, Leaving}
+use Rattle.ftl0_server.specs.declared.place.Place.TheVariants.{Moving, Talking, Vacant}
 use Rattle.ftl0_server.specs.ServerState.{AllPlaces, SendsAs}
 use Rattle.ftl0_server.specs.Slots.{PlacesSend, Slot, SlotSends, slot_next}
+
+-- the state and the stations of a link are as they were
+pub record SameLink (old new : Kept) : Type 0 where
+  pub state : new.state ≡ old.state
+  pub stations : SameStations old new
 
 -- the session and the stations of a connection are as they were
 pub record SameTalk (old new : ConnectionState) : Type 0 where
@@ -18,15 +23,15 @@ pub record SameTalk (old new : ConnectionState) : Type 0 where
 
 -- the place has what it had, but that a frame was given out
 abbrev pub SamePlace : Place → Place → Type 0
-SamePlace Free Free = ⊤
-SamePlace Free (Talking connection) = ⊥
-SamePlace Free (Leaving link) = ⊥
-SamePlace (Talking connection) Free = ⊥
+SamePlace Moving Moving = ⊤
+SamePlace Moving (Talking connection) = ⊥
+SamePlace Moving (Vacant link) = ⊥
+SamePlace (Talking connection) Moving = ⊥
 SamePlace (Talking connection) (Talking after) = SameTalk connection after
-SamePlace (Talking connection) (Leaving link) = ⊥
-SamePlace (Leaving link) Free = ⊥
-SamePlace (Leaving link) (Talking connection) = ⊥
-SamePlace (Leaving link) (Leaving after) = ⊤
+SamePlace (Talking connection) (Vacant link) = ⊥
+SamePlace (Vacant link) Moving = ⊥
+SamePlace (Vacant link) (Talking connection) = ⊥
+SamePlace (Vacant link) (Vacant after) = SameLink link.link after.link
 
 -- What is given out where this is sent next: nothing; or the octets of its frame in place of those that the buffer
 -- held.

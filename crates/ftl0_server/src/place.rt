@@ -1,14 +1,15 @@
 //! A place of a server.
 
-ghost use Rattle.std.specs.Prelude.{◌≡◌, ◌<◌, [], false, true, IsErrOf};
+ghost use Rattle.std.specs.Prelude.{◌≡◌, ◌<◌, [], false, true, IsErr};
 ghost use Rattle.ax25_frames.specs.Values.{value_of};
 ghost use Rattle.ax25_link.specs.Window.{Window};
 ghost use Rattle.file_store.specs.State.{IsReady, store_in};
 ghost use Rattle.ftl0_session.specs.Downloads.Needs.{AreComplete};
+ghost use Rattle.ftl0_session.specs.Lists.Lists.{has_left};
 ghost use Rattle.disk_model.specs.AtDisk.{at};
 ghost use Rattle.ftl0_session.specs.SessionState.{working_on};
-ghost use Rattle.ftl0_server.specs.AtPlace.{GivesUp, HasEnded, HasLeft, IsPlace, KeepsStore, MayEnd, MayHear, MayLeave};
-ghost use Rattle.ftl0_server.specs.AtPlace.{MayTick, PlaceFits, PlaceHearsFrame, Works};
+ghost use Rattle.ftl0_server.specs.AtPlace.{GivesUp, HasBegun, HasEnded, HasLeft, IsPlace, KeepsStore, MayBegin};
+ghost use Rattle.ftl0_server.specs.AtPlace.{MayEnd, MayHear, MayLeave, MayTick, PlaceFits, PlaceHearsFrame, Works};
 ghost use Rattle.ftl0_server.specs.Slots.{Slot, slot_ticking};
 ghost use Rattle.ftl0_server.specs.Places.{PlaceGives, SamePlace};
 ghost use Rattle.ftl0_server.specs.ServerState.{has_caller, is_empty_place, place_most, place_pending};
@@ -16,22 +17,22 @@ ghost use Rattle.ftl0_server.specs.ServerState.{has_caller, is_empty_place, plac
 use crate::connection::{Connection, Fate};
 use arrayvec::ArrayVec;
 use ax25_frames::Frame;
-use ax25_link::Link;
-use disk_model::{Disk, Halt};
+use disk_model::{Disk, DiskFault};
 use file_store::FileStore;
 use ftl0_session::lists::Lists;
+use packet_link::PacketLink;
 use px_base::Call;
 use std::mem;
 
-/// A place of a server.
+/// A place of a server. It has its link from the server's start on, so that a session that begins takes no memory.
 pub(crate) enum Place {
-    /// It is free.
-    Free,
-    /// It has a caller's connection.
+    /// It has no session: its link is down from the start on, or of a session that is over, and may have frames to give
+    /// out still. Once they are out it is free.
+    Vacant(PacketLink),
+    /// It has a caller's connection, with the link.
     Talking(Connection),
-    /// It has the link of a session that is over, which may have frames to give out still. Once they are out it is
-    /// free.
-    Leaving(Link),
+    /// Its link is moved from the one to the other: inside a call alone.
+    Moving,
 }
 
 impl Place {
@@ -40,8 +41,8 @@ impl Place {
         ensures { result ≡ is_empty_place self.now }
     {
         match self {
-            Place::Talking(_) => false,
-            Place::Free | Place::Leaving(_) => true,
+            Place::Vacant(_) => true,
+            Place::Talking(_) | Place::Moving => false,
         }
     }
 
@@ -51,7 +52,7 @@ impl Place {
     {
         match self {
             Place::Talking(connection) => connection.caller() == caller,
-            Place::Free | Place::Leaving(_) => false,
+            Place::Vacant(_) | Place::Moving => false,
         }
     }
 
@@ -60,9 +61,9 @@ impl Place {
         ensures { result ≡ place_pending self.now }
     {
         match self {
-            Place::Free => false,
+            Place::Vacant(link) => link.pending(),
             Place::Talking(connection) => connection.pending(),
-            Place::Leaving(link) => link.pending(),
+            Place::Moving => false,
         }
     }
 
@@ -76,9 +77,9 @@ impl Place {
         ensures same { SamePlace self.old self.new }
     {
         match self {
-            Place::Free => false,
+            Place::Vacant(link) => link.next_out(out),
             Place::Talking(connection) => connection.next_out(out),
-            Place::Leaving(link) => link.next_out(out),
+            Place::Moving => false,
         }
     }
 
@@ -87,11 +88,24 @@ impl Place {
         ensures { PlaceFits self.now }
     {
         match self {
-            Place::Free => {}
+            Place::Vacant(link) => link.stands_law(),
             Place::Talking(connection) => connection.fits_law(),
-            Place::Leaving(link) => {
-                let _ = link.state();
+            Place::Moving => {}
+        }
+    }
+
+    /// Begins a session of this caller over its link, by the answer to a SABM with this P bit at this moment.
+    pub(crate) fn begin(&mut self, caller: Call, poll: bool, moment: u32, lists: &Lists)
+        requires { MayBegin self.old }
+        ensures { HasBegun caller poll moment (has_left lists.now caller) self.old self.new }
+    {
+        match mem::replace(self, Place::Moving) {
+            Place::Vacant(link) => {
+                let connection = Connection::answer(link, caller, poll, moment, lists);
+                self.put(Place::Talking(connection));
             }
+            Place::Talking(_connection) => unreachable!(),
+            Place::Moving => unreachable!(),
         }
     }
 
@@ -104,14 +118,14 @@ impl Place {
         lists: &mut Lists,
         frame: &Frame<'_>,
         moment: u32,
-    ) -> Result<(), Halt>
+    ) -> Result<(), DiskFault>
         requires may { MayHear store.old (value_of frame.now) self.old }
         requires ready { IsReady D.Disk store.old disk.old }
         requires complete { AreComplete (store_in store.old) lists.old }
         ensures hears { PlaceHearsFrame D.Disk moment (value_of frame.now)
             (working_on store.old lists.old disk.old) (working_on store.new lists.new disk.new)
             self.old self.new result }
-        ensures keeps { KeepsStore D.Disk (IsErrOf result Halt.Disk) store.old store.new disk.old disk.new }
+        ensures keeps { KeepsStore D.Disk (IsErr result) store.old store.new disk.old disk.new }
         ensures works { Works store.old store.new self.old self.new }
         ensures complete { AreComplete (store_in store.new) lists.new }
     {
@@ -123,7 +137,7 @@ impl Place {
                 }
                 heard
             }
-            Place::Free | Place::Leaving(_) => unreachable!(),
+            Place::Vacant(_) | Place::Moving => unreachable!(),
         }
     }
 
@@ -141,18 +155,7 @@ impl Place {
                     self.leave(store);
                 }
             }
-            Place::Free | Place::Leaving(_) => {}
-        }
-    }
-
-    /// Puts this in its place, which has no session.
-    pub(crate) fn put(&mut self, place: Place)
-        requires { is_empty_place self.old ≡ true }
-        ensures { self.new ≡ place }
-    {
-        match mem::replace(self, place) {
-            Place::Free | Place::Leaving(_) => {}
-            Place::Talking(_connection) => unreachable!(),
+            Place::Vacant(_) | Place::Moving => {}
         }
     }
 
@@ -165,7 +168,7 @@ impl Place {
             Place::Talking(connection) => {
                 let _link = connection.end(store);
             }
-            Place::Free | Place::Leaving(_) => {}
+            Place::Vacant(_) | Place::Moving => {}
         }
     }
 
@@ -174,12 +177,24 @@ impl Place {
         requires { MayLeave store.old self.old }
         ensures { HasLeft store.old store.new self.old self.new }
     {
-        match mem::replace(self, Place::Free) {
+        match mem::replace(self, Place::Moving) {
             Place::Talking(connection) => {
                 let link = connection.end(store);
-                self.put(Place::Leaving(link));
+                self.put(Place::Vacant(link));
             }
-            Place::Free | Place::Leaving(_) => unreachable!(),
+            Place::Vacant(_) | Place::Moving => unreachable!(),
+        }
+    }
+
+    /// Puts this where the link is moved.
+    fn put(&mut self, place: Place)
+        requires { self.old ≡ Place.Moving }
+        ensures { self.new ≡ place }
+    {
+        match mem::replace(self, place) {
+            Place::Moving => {}
+            Place::Talking(_connection) => unreachable!(),
+            Place::Vacant(_) => unreachable!(),
         }
     }
 }

@@ -11,18 +11,17 @@ ghost use Rattle.file_store.specs.Journal.{IsAfterRecovery};
 ghost use Rattle.file_store.specs.Recovery.{IsRecovered, LeavesAlikeSinceSync, RefusesRecovery, StandsAlike};
 ghost use Rattle.file_store.specs.State.{IsRead, IsReady, store_in, store_layout, store_magic, store_on};
 ghost use Rattle.file_store.specs.Store.{Store};
-ghost use Rattle.ftl0_session.specs.SessionState.{caller_of};
 ghost use Rattle.node.specs.Events.{hears, ticks};
+ghost use Rattle.packet_link.specs.PacketLink.{idle_link};
 ghost use Rattle.ftl0_server.specs.AtPlace.{AllFit};
-ghost use Rattle.ftl0_server.specs.Calls.{AwaitsEvent, AwaitsFrame, HandsOutNext, HearsStranger, IsNew, SameButLinks};
-ghost use Rattle.ftl0_server.specs.Calls.{SameStore, Seats, HearsEvent};
+ghost use Rattle.ftl0_server.specs.Calls.{AwaitsEvent, AwaitsFrame, AwaitsStranger, HandsOutNext, HearsStranger};
+ghost use Rattle.ftl0_server.specs.Calls.{SameButLinks, SameStore, HearsEvent};
 ghost use Rattle.ftl0_server.specs.Server.{Server as ServerValue, called_by, hearing_stranger, new_server, refusing};
 ghost use Rattle.ftl0_server.specs.Server.{server_ticking, settled};
-ghost use Rattle.ftl0_server.specs.ServerState.{IsServer, SendsFor, has_caller, is_empty_place, server_most};
-ghost use Rattle.ftl0_server.specs.ServerState.{server_pending, sessions_in};
+ghost use Rattle.ftl0_server.specs.ServerState.{IsServer, SendsFor, all_vacant, has_caller, is_empty_place};
+ghost use Rattle.ftl0_server.specs.ServerState.{server_most, server_pending, sessions_in};
 ghost use Rattle.ftl0_server.specs.Slots.{first_empty};
 
-use crate::connection::Connection;
 use crate::place::Place;
 use crate::places::{
     all_fit_law, any_is_pending, count_sessions, empty_place, end_all, next_of, place_of, tick_all,
@@ -30,11 +29,12 @@ use crate::places::{
 use arrayvec::ArrayVec;
 use ax25_frames::Frame;
 use ax25_link::{Refusal, is_call};
-use disk_model::{Disk, Halt};
+use disk_model::{Disk, DiskFault};
 use file_store::laws::{state_law, told_law};
 use file_store::{FileStore, Limits, StoreFault};
 use ftl0_session::lists::Lists;
-use px_base::{Call, OutOfMemory};
+use packet_link::PacketLink;
+use px_base::Call;
 use std::alloc::Global;
 use std::marker::Model;
 
@@ -46,7 +46,6 @@ pub const PLACES: usize = 8;
 /// server must be closed, which parks all uploads. Contracts see it as a `ServerState`; they speak of the servers of
 /// the definitions that it stands for, whose links have all that was pushed, sent and taken.
 pub struct Server {
-    alloc: Global,
     me: Call,
     k: u8,
     places: [Place; PLACES],
@@ -69,7 +68,7 @@ impl Model for Server {
 impl Server {
     /// Recovers the store from the disk, as [`FileStore::recover`] does, and starts a server of it, without sessions
     /// and without selections: the station `me`, with at most k I frames outstanding on each link; `good_k(k)` holds.
-    /// Takes memory, for the selections about 260 KiB behind the recovery.
+    /// Takes memory, behind the recovery about 300 KiB: for the selections, and for the links of the eight places.
     ///
     /// `NotAStore` and `Damaged` leave the disk's content as it was. After `Disk` and `OutOfMemory` the disk is to be
     /// recovered again.
@@ -109,20 +108,11 @@ impl Server {
         state_law(&store);
         told_law(&store, disk);
         let lists = new_lists(alloc)?;
+        let places = vacant_places(alloc, me, k)?;
         Ok(Server {
-            alloc,
             me,
             k,
-            places: [
-                Place::Free,
-                Place::Free,
-                Place::Free,
-                Place::Free,
-                Place::Free,
-                Place::Free,
-                Place::Free,
-                Place::Free,
-            ],
+            places,
             stray: None,
             store,
             lists,
@@ -135,16 +125,15 @@ impl Server {
     /// of such a station gets DM, and the rest is passed over (AX.25 2.0, 2.4.3). The commands of the frame's packets
     /// are on the disk before any frame is given out. A read of the disk that fails is told by code 3, and the server
     /// goes on. It costs the frame's octets, finding its sender among eight, what its packets cost the store, and the
-    /// octets of the files that it sends. Takes memory for a new session and for what packets bring.
+    /// octets of the files that it sends. Takes no memory.
     ///
-    /// After `Disk` the frames that are pending are given out first, code 3 among them; after any other stop none is.
-    /// Then the server is closed.
+    /// After a fault the frames that are pending are given out first, code 3 among them. Then the server is closed.
     pub fn hear<D: Disk>(
         &mut self,
         disk: &mut D,
         frame: &Frame<'_>,
         moment: u32,
-    ) -> Result<(), Halt>
+    ) -> Result<(), DiskFault>
         requires { AwaitsFrame D.Disk self.old disk.old (value_of frame.now) }
 
         // Of whichever server it stands for, over the store that the disk holds, it is what the frame makes of that, or
@@ -154,14 +143,17 @@ impl Server {
     {
         match place_of(&self.places, frame.src) {
             Some(place) => self.hear_at(place, disk, frame, moment),
-            None => self.hear_stranger(frame, moment),
+            None => {
+                self.hear_stranger(frame, moment);
+                Ok(())
+            }
         }
     }
 
     /// Counts a tick on each link, while nothing is pending (AX.25 2.0, 2.4.7): a session is over whose caller doesn't
     /// answer any more. It frees no octets of a link, so nothing more of what is due is queued. So far a tick has
     /// nothing to do on the disk, and its moment makes no difference. It costs the eight places. Takes no memory.
-    pub fn tick<D: Disk>(&mut self, _disk: &mut D, _moment: u32) -> Result<(), Halt>
+    pub fn tick<D: Disk>(&mut self, _disk: &mut D, _moment: u32) -> Result<(), DiskFault>
         requires { AwaitsEvent D.Disk self.old _disk.old }
         ensures ok { result ≡ Ok tt }
 
@@ -238,7 +230,6 @@ impl Server {
     /// are gone. Takes no memory.
     pub fn close(self) {
         let Server {
-            alloc: _,
             me: _,
             k: _,
             places,
@@ -257,7 +248,7 @@ impl Server {
         disk: &mut D,
         frame: &Frame<'_>,
         moment: u32,
-    ) -> Result<(), Halt>
+    ) -> Result<(), DiskFault>
         requires place { position (has_caller (value_of frame.now).src) self.old.places ≡ Some place }
         requires awaits { AwaitsFrame D.Disk self.old disk.old (value_of frame.now) }
         ensures { HearsEvent D.Disk (hears (value_of frame.now) moment) self.old self.new disk.old disk.new result }
@@ -268,50 +259,33 @@ impl Server {
     }
 
     /// Hears a frame of a station without a connection (AX.25 2.0, 2.4.3).
-    fn hear_stranger(&mut self, frame: &Frame<'_>, moment: u32) -> Result<(), Halt>
-        requires { position (has_caller (value_of frame.now).src) self.old.places ≡ None }
+    fn hear_stranger(&mut self, frame: &Frame<'_>, moment: u32)
+        requires { AwaitsStranger self.old (value_of frame.now).src }
         ensures heard { HearsStranger (λ server. hearing_stranger server (value_of frame.now) moment)
-            self.old self.new result }
+            self.old self.new }
         ensures same { SameStore self.old self.new }
     {
         if is_call(frame) {
-            return self.answer(frame.src, frame.poll, moment);
-        }
-        if frame.command && frame.poll {
+            self.answer(frame.src, frame.poll, moment);
+        } else if frame.command && frame.poll {
             self.refuse(frame.src, true);
         }
-        Ok(())
     }
 
     /// Answers a SABM with this P bit of a station without a connection: by a session at the lowest free place, whose
     /// LOGIN_RESP says whether numbers are left in the station's list, or by DM where none is free (AX.25 2.0, 2.4.3.1;
     /// FTL0 1990, LOGIN_RESP).
-    fn answer(&mut self, caller: Call, poll: bool, moment: u32) -> Result<(), Halt>
-        requires { position (has_caller caller) self.old.places ≡ None }
+    fn answer(&mut self, caller: Call, poll: bool, moment: u32)
+        requires { AwaitsStranger self.old caller }
         ensures heard { HearsStranger (λ server. called_by server caller poll moment (first_empty server.slots))
-            self.old self.new result }
+            self.old self.new }
         ensures same { SameStore self.old self.new }
     {
         let Some(place) = empty_place(&self.places) else {
             self.refuse(caller, poll);
-            return Ok(());
+            return;
         };
-        let answered = Connection::answer(
-            self.alloc,
-            self.me,
-            caller,
-            self.k,
-            poll,
-            moment,
-            &self.lists,
-        );
-        match answered {
-            Ok(connection) => {
-                self.seat(place, connection);
-                Ok(())
-            }
-            Err(OutOfMemory) => Err(Halt::OutOfMemory),
-        }
+        self.seat(place, caller, poll, moment);
     }
 
     /// The DM to this station is to be given out, with this F bit.
@@ -323,17 +297,17 @@ impl Server {
         self.stray = Some(Refusal { to, poll });
     }
 
-    /// Seats a connection at this place, which has no session, of a caller that has none.
-    fn seat(&mut self, place: usize, connection: Connection)
+    /// Begins a session at this place, which has none, of a caller that has none.
+    fn seat(&mut self, place: usize, caller: Call, poll: bool, moment: u32)
         requires empty { position is_empty_place self.old.places ≡ Some place }
-        requires stranger { position (has_caller (caller_of connection.session)) self.old.places ≡ None }
-        requires new { IsNew self.old connection }
-        ensures seats { Seats place connection self.old self.new }
+        requires awaits { AwaitsStranger self.old caller }
+        ensures heard { HearsStranger (λ server. called_by server caller poll moment (Some place))
+            self.old self.new }
         ensures same { SameStore self.old self.new }
     {
         let places: &mut [Place] = &mut self.places;
         let at = &mut places[place];
-        at.put(Place::Talking(connection));
+        at.begin(caller, poll, moment, &self.lists);
     }
 }
 
@@ -343,4 +317,39 @@ fn new_lists(alloc: Global) -> Result<Lists, StoreFault>
     ensures memory { IfErr result (λ fault. fault ≡ StoreFault.OutOfMemory) }
 {
     Lists::new(alloc).map_err(|_| StoreFault::OutOfMemory)
+}
+
+/// The places of a server without sessions, each with its link. Takes memory.
+fn vacant_places(alloc: Global, me: Call, k: u8) -> Result<[Place; PLACES], StoreFault>
+    requires { IsGoodK k }
+    ensures places { IfOk result (λ places. places ≡ all_vacant me k) }
+    ensures memory { IfErr result (λ fault. fault ≡ StoreFault.OutOfMemory) }
+{
+    let first = new_link(alloc, me, k)?;
+    let second = new_link(alloc, me, k)?;
+    let third = new_link(alloc, me, k)?;
+    let fourth = new_link(alloc, me, k)?;
+    let fifth = new_link(alloc, me, k)?;
+    let sixth = new_link(alloc, me, k)?;
+    let seventh = new_link(alloc, me, k)?;
+    let eighth = new_link(alloc, me, k)?;
+    Ok([
+        Place::Vacant(first),
+        Place::Vacant(second),
+        Place::Vacant(third),
+        Place::Vacant(fourth),
+        Place::Vacant(fifth),
+        Place::Vacant(sixth),
+        Place::Vacant(seventh),
+        Place::Vacant(eighth),
+    ])
+}
+
+/// A link before its first session. Takes memory.
+fn new_link(alloc: Global, me: Call, k: u8) -> Result<PacketLink, StoreFault>
+    requires { IsGoodK k }
+    ensures link { IfOk result (λ link. link ≡ idle_link (window_of k) me) }
+    ensures memory { IfErr result (λ fault. fault ≡ StoreFault.OutOfMemory) }
+{
+    PacketLink::idle(alloc, me, k).map_err(|_| StoreFault::OutOfMemory)
 }

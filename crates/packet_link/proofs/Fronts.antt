@@ -1,9 +1,6 @@
 -- Packets at the front of octets, some and then others; and the stations of a link, which stay.
 use Rattle.std.proofs.Common.{◌≡◌, ℕ, List, [], ◌++◌, refl, ap, sym, ◌∙◌, append_assoc, append-nil}
-use Rattle.ax25_link.specs.Kept.{Kept, SameStations}
-use Rattle.ftl0_packets.specs.Layout.{Item}
-use Rattle.ftl0_packets.specs.Reading.{packets_of, rest_of}
-use Rattle.packet_link.specs.PacketLink.{HasFront}
+use Rattle.packet_link.proofs.Names.{Kept, SameStations, Item, packets_of, rest_of, HasFront}
 
 pub front-none : (octets : List ℕ) → HasFront octets octets []
 front-none octets = record { packets = refl; rest = refl }

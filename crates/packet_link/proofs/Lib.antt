@@ -1,4 +1,5 @@
 pub mod Fronts
 mod LinkLemmas
+mod Names
 pub mod Queuing
 mod ReaderLemmas

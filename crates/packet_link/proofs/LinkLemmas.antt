@@ -1,30 +1,24 @@
 -- What becomes of a link at a frame that is heard, a tick, or a frame that is sent.
 use Rattle.std.proofs.Common.{◌≡◌, ℕ, ◌+◌, ◌==◌, Bool, true, false, ◌&&◌, List, refl, ap, sym, ◌∙◌, subst}
-use Rattle.std.specs.Prelude.{Option, None, Some, IsTrue, nat_lt, if◌then◌else◌, ⊤}
+use Rattle.std.specs.Prelude.{if◌then◌else◌}
 use Rattle.std.proofs.lemmas.Bool.{cond_both}
 use Rattle.ax25_frames.specs.declared.control.Control.{Control}
 use Rattle.ax25_frames.specs.declared.control.Control.TheVariants.{I, Rr, Rnr, Rej, Sabm, Disc, Dm, Ua, Frmr, Ui}
 use Rattle.ax25_frames.specs.FrameText.{FrameValue}
 use Rattle.ax25_link.specs.declared.state.Heard.{Heard}
-use Rattle.ax25_link.specs.declared.state.Heard.TheVariants.{Bytes}
 use Rattle.ax25_link.specs.declared.state.LinkState.{LinkState}
 use Rattle.ax25_link.specs.declared.state.LinkState.TheVariants.{Calling, Up, Ending, Down}
 use Rattle.ax25_link.specs.declared.state.Why.{Why}
 use Rattle.ax25_link.specs.declared.state.Why.TheVariants as why
 use Rattle.ax25_link.specs.Acknowledging.{Meaning, good, stale, bad, applying, is_bad, is_good, meaning_of}
 use Rattle.ax25_link.specs.Air.{is_information}
-use Rattle.ax25_link.specs.Calls.{after_push}
-use Rattle.ax25_link.specs.Ends.{Farewell, LinkEnd, Reply, ready}
 use Rattle.ax25_link.specs.Frames.{receive_number}
-use Rattle.ax25_link.specs.Kept.{GivesNext, HandsOut, Kept, StandsFor, Steps, Tells}
-use Rattle.ax25_link.specs.Rows.{Outcome, after_frame, calling_row, ending_row, entering, heard_of, information_row, numbered_row, replying, row}
-use Rattle.ax25_link.specs.Rows.{row_of_state, sending_again, supervisory_row, up_row, with_busy}
-use Rattle.ax25_link.specs.Sending.{Sending, after_new, has_new, last_sending, later_sending, next_sending}
-use Rattle.ax25_link.specs.Sending.{sending_after}
+use Rattle.ax25_link.specs.Rows.{Outcome, after_frame, calling_row, ending_row, entering, heard_of, information_row, numbered_row, replying, row, row_of_state, sending_again, supervisory_row, up_row, with_busy}
+use Rattle.ax25_link.specs.Sending.{Sending, after_new, has_new, last_sending, later_sending, next_sending, sending_after}
 use Rattle.ax25_link.specs.Timer.{after_tick, is_down, is_spent, runs_out, told_of_tick, trying}
 use Rattle.ax25_link.specs.Window.{Window}
 use Rattle.ax25_link.proofs.Offered.{acknowledging-keeps}
-use Rattle.packet_link.specs.PacketLink.{IsOpen, StandsForSome}
+use Rattle.packet_link.proofs.Names.{Option, None, Some, IsTrue, nat_lt, ⊤, Bytes, after_push, Farewell, LinkEnd, Reply, ready, GivesNext, HandsOut, Kept, StandsFor, Steps, Tells, IsOpen, StandsForSome}
 
 -- up, unless what was told is that the link is down
 abbrev pub StaysUp : Outcome → Type 0

@@ -1,17 +1,12 @@
 -- How what is due is queued, one packet after another, and how many octets are free.
-use Rattle.std.proofs.Common.{◌≡◌, ◌⊎◌, ⊎_elim, ℕ, zero, suc, ◌+◌, ◌<◌, ◌≤◌, min, Bool, true, false, List}
-use Rattle.std.proofs.Common.{◌++◌, length, take, drop, refl, ap, sym, ◌∙◌, subst, arith, length-append}
-use Rattle.std.specs.Prelude.{Option, None, Some, nat_le, if◌then◌else◌}
+use Rattle.std.proofs.Common.{◌≡◌, ◌⊎◌, ⊎_elim, ℕ, zero, suc, ◌+◌, ◌<◌, ◌≤◌, min, Bool, true, false, List, ◌++◌, length, take, drop, refl, ap, sym, ◌∙◌, subst, arith, length-append}
+use Rattle.std.specs.Prelude.{if◌then◌else◌}
 use Rattle.std.specs.List.{concat}
 use Rattle.std.proofs.lemmas.Bool.Decides.{leb_tells}
 use Rattle.std.proofs.lemmas.List.{length-take}
-use Rattle.ax25_link.specs.Calls.{after_push}
-use Rattle.ax25_link.specs.Ends.{LinkEnd, free_octets}
-use Rattle.ax25_link.specs.Kept.{Kept, Steps}
 use Rattle.ax25_link.specs.Queue.{room_of}
-use Rattle.ftl0_packets.specs.Layout.{PacketValue, packet_text}
-use Rattle.packet_link.specs.PacketLink.{StandsForSome}
 use Rattle.packet_link.specs.Queuing.{enough_free, filling, on_due}
+use Rattle.packet_link.proofs.Names.{Option, None, Some, nat_le, after_push, LinkEnd, free_octets, Kept, Steps, PacketValue, packet_text, StandsForSome}
 
 -- ---- room
 

@@ -1,10 +1,8 @@
 -- The octets that wait in a reader of packets.
 use Rattle.std.proofs.Common.{◌≡◌, ℕ, ◌<◌, Bool, true, false, List, [], ◌∷◌, ◌++◌, length, take, ap, sym, ◌∙◌, subst, append-nil, arith}
-use Rattle.std.specs.Prelude.{if◌then◌else◌, nat_eq}
+use Rattle.std.specs.Prelude.{if◌then◌else◌}
 use Rattle.px_base.specs.Octets.{IsOctets}
-use Rattle.ftl0_packets.specs.Reading.{is_whole, packets_of, rest_of, under_way}
-use Rattle.ftl0_packets.proofs.OctetLemmas.{IsOctets-append, IsOctets-nil, IsOctets-take}
-use Rattle.packet_link.specs.PacketLink.{IsWaiting}
+use Rattle.packet_link.proofs.Names.{nat_eq, is_whole, packets_of, rest_of, under_way, IsOctets-append, IsOctets-nil, IsOctets-take, IsWaiting}
 
 -- in a new reader
 pub waits-none : (reader : List ℕ) → reader ≡ [] → packets_of (under_way reader) ≡ [] → rest_of (under_way reader) ≡ [] → IsWaiting (under_way reader)

@@ -1,8 +1,9 @@
 -- A link that carries packets as contracts see it, and what its calls do.
 use Rattle.std.specs.Prelude.{◌≡◌, ℕ, ◌<◌, List, [], ◌∷◌, ◌++◌, length, Bool, false, true, IsTrue}
 use Rattle.px_base.specs.Octets.{IsOctets}
-use Rattle.ax25_link.specs.Ends.{LinkEnd}
-use Rattle.ax25_link.specs.Kept.{GivesNext, Kept, SameStations, StandsFor, is_pending, most_pending}
+use Rattle.px_base.specs.CallSign.{CallSign}
+use Rattle.ax25_link.specs.Ends.{LinkEnd, idle_end}
+use Rattle.ax25_link.specs.Kept.{GivesNext, Kept, SameStations, StandsFor, is_pending, kept_of, most_pending}
 use Rattle.ax25_link.specs.Window.{Window}
 use Rattle.ax25_link.specs.declared.state.Heard.{Heard}
 use Rattle.ax25_link.specs.declared.state.Heard.TheVariants.{Closed}
@@ -14,6 +15,10 @@ use Rattle.ftl0_packets.specs.Reading.{is_whole, packets_of, read_item, rest_of,
 pub record PacketLinkState : Type 0 where
   pub link : Kept
   pub reader : List ℕ
+
+-- an end before its first link
+abbrev pub idle_link : Window → CallSign → PacketLinkState
+idle_link w me = record { link = kept_of w (idle_end me); reader = [] }
 
 -- the octets that were accepted and of which no packet was taken yet
 abbrev pub octets_in : PacketLinkState → List ℕ

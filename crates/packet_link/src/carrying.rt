@@ -14,7 +14,7 @@ ghost use Rattle.ax25_link.specs.Window.{IsGoodK, window_of};
 ghost use Rattle.ftl0_packets.specs.Reading.{is_whole, read_item};
 ghost use Rattle.ftl0_packets.specs.Values.{item_of};
 ghost use Rattle.packet_link.specs.PacketLink.{FindsNone, FindsPacket, GivesFrame, IsOpen, KeepsReader};
-ghost use Rattle.packet_link.specs.PacketLink.{PacketLinkState as LinkValue, StandsForSome, octets_in};
+ghost use Rattle.packet_link.specs.PacketLink.{PacketLinkState as LinkValue, StandsForSome, idle_link, octets_in};
 ghost use Rattle.packet_link.specs.Queuing.{enough_free};
 
 use arrayvec::ArrayVec;
@@ -65,26 +65,32 @@ impl PacketLink {
         })
     }
 
-    /// The end that answers a SABM with this P bit ([`Link::answer`]): UA is pending (AX.25 2.0, 2.4.3.1). At most k I
-    /// frames are outstanding at a time; `good_k(k)` holds. Takes memory, and fails only where there is none.
-    pub fn answer(
-        alloc: Global,
-        me: Call,
-        peer: Call,
-        k: u8,
-        poll: bool,
-    ) -> Result<PacketLink, OutOfMemory>
+    /// An end before its first link ([`Link::idle`]): state Down, with nothing pending. At most k I frames are
+    /// outstanding at a time; `good_k(k)` holds. Takes memory, and fails only where there is none.
+    pub fn idle(alloc: Global, me: Call, k: u8) -> Result<PacketLink, OutOfMemory>
         requires { IsGoodK k }
-        ensures end { IfOk result (λ it. StandsFor (window_of k) it.link (answering_end me peer poll)) }
-        ensures stations { IfOk result (λ it. HasStations it.link false me peer k) }
-        ensures up { IfOk result (λ it. it.link.state ≡ LinkState.Up) }
-        ensures octets { IfOk result (λ it. octets_in it ≡ []) }
+        ensures { IfOk result (λ it. it ≡ idle_link (window_of k) me) }
     {
-        let link = Link::answer(alloc, me, peer, k, poll)?;
+        let link = Link::idle(alloc, me, k)?;
         Ok(PacketLink {
             link,
             reader: PacketReader::new(),
         })
+    }
+
+    /// Answers a SABM of the peer with this P bit, in state Down and while nothing is pending ([`Link::accept`]): UA is
+    /// pending (AX.25 2.0, 2.4.3.1), and nothing is left of a link before. Takes no memory.
+    pub fn accept(&mut self, peer: Call, poll: bool)
+        requires down { self.old.link.state ≡ LinkState.Down }
+        requires quiet { is_pending self.old.link ≡ false }
+        ensures end { StandsFor (window_of self.old.link.k) self.new.link
+            (answering_end self.old.link.me peer poll) }
+        ensures stations { HasStations self.new.link false self.old.link.me peer self.old.link.k }
+        ensures up { self.new.link.state ≡ LinkState.Up }
+        ensures octets { octets_in self.new ≡ [] }
+    {
+        self.link.accept(peer, poll);
+        self.begin_anew();
     }
 
     /// Takes a frame of the peer, while nothing is pending ([`Link::take`]). Where it tells `Bytes` the frame is an I
@@ -98,6 +104,7 @@ impl PacketLink {
         ensures bytes { result ≡ Heard.Bytes → IsTrue (is_information (value_of frame.now).kind.control) }
         ensures next { result ≡ Heard.Bytes → self.new.link.state ≡ LinkState.Up }
         ensures up { self.old.link.state ≡ LinkState.Up → IsOpen result → self.new.link.state ≡ LinkState.Up }
+        ensures down { (reason : Why) → result ≡ Heard.Closed reason → self.new.link.state ≡ LinkState.Down }
         ensures keeps { KeepsReader self.old self.new }
     {
         self.link.take(frame)
@@ -175,6 +182,7 @@ impl PacketLink {
         ensures after { Steps self.old.link self.new.link (λ w end. after_tick end) }
         ensures told { Tells self.old.link (λ w end. told_of_tick end) result }
         ensures up { self.old.link.state ≡ LinkState.Up → result ≡ None → self.new.link.state ≡ LinkState.Up }
+        ensures down { IfSome result (λ reason. self.new.link.state ≡ LinkState.Down) }
         ensures keeps { KeepsReader self.old self.new }
     {
         self.link.tick()
@@ -193,6 +201,7 @@ impl PacketLink {
     pub fn abandon(&mut self)
         requires { self.old.link.state ≡ LinkState.Up }
         ensures after { Steps self.old.link self.new.link (λ w end. after_abandon end) }
+        ensures down { self.new.link.state ≡ LinkState.Down }
         ensures keeps { KeepsReader self.old self.new }
     {
         self.link.abandon();
@@ -220,14 +229,6 @@ impl PacketLink {
         ensures { result ≡ self.now.link.state }
     {
         self.link.state()
-    }
-
-    /// The link alone, which may have frames to give out still. Takes no memory.
-    pub fn into_link(self) -> Link
-        ensures { result ≡ self.link }
-    {
-        let PacketLink { link, reader: _ } = self;
-        link
     }
 
     /// A law, which does nothing: the link stands for some end, and whatever end it stands for is one that frames and

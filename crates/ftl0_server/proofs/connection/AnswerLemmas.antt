@@ -16,12 +16,11 @@ use Rattle.file_store.specs.Store.{Store}
 use Rattle.file_store.specs.Working.{CutsOffAmongReads, DoesAmongReads, one_if}
 use Rattle.file_store.proofs.Offered.{among-at, among-same, among-store, does-among, Does-none, known_back, on_untold}
 use Rattle.ftl0_session.specs.Uploads.Failures.{Failure, failed_reads, failed_write, read_fails, write_fails}
-use Rattle.disk_model.specs.declared.halt.Halt.{Halt as Stop}
-use Rattle.disk_model.specs.declared.halt.Halt.TheVariants as stop
+use Rattle.disk_model.specs.declared.disk.DiskFault.{DiskFault}
 use Rattle.ftl0_session.specs.SessionState.{SessionState, WorkingOn, caller_of, state_in}
 use Rattle.ftl0_session.specs.Table.{Row, failed_reads_told, session_row}
-use Rattle.ftl0_session.specs.Taking.{Answers, AnswersAnyway, LooksAtNone, PutsRow, TakesPacket, TellsRead, Working, at_work, packet_row, working}
-use Rattle.disk_model.specs.AtDisk.{AtDisk, at}
+use Rattle.ftl0_session.specs.Taking.{Answers, AnswersAnyway, LooksAtNone, PutsRow, TakesPacket, TellsRead, at_work, packet_row, working}
+use Rattle.disk_model.specs.AtDisk.{at}
 use Rattle.ftl0_session.specs.Uploads.Events.{packet_of}
 use Rattle.ftl0_session.proofs.WorkingLemmas.{told-is}
 use Rattle.ftl0_server.specs.declared.connection.fate.Fate.{Fate}
@@ -55,20 +54,19 @@ module _ {D : Type 0} (g : Ghosts D) (on : (first second third : D) → g.lasts 
   one-fails : (reads : Bool) → taking_one (failed_write first ++ failed_reads (at_part reads first)) ≡ one true (row_here reads)
   one-fails reads = one-is (failed_write first ++ failed_reads (at_part reads first)) reads true (reads-at (failed_write first) reads first (one-writes first)) (writes-at first (at_part reads first))
 
-  abbrev Takes : Result ⊤ Stop → List ℕ → Type 0
+  abbrev Takes : Result ⊤ DiskFault → List ℕ → Type 0
   Takes result replies = TakesPacket g (packet_of (caller_of session) moment item) (at_work session before) (at_work new.session now) replies result
 
   -- What the packet gave and did, by its row for whether a read failed.
-  record IsBy (result : Result ⊤ Stop) (replies : List ℕ) (reads : Bool) : Type 0 where
+  record IsBy (result : Result ⊤ DiskFault) (replies : List ℕ) (reads : Bool) : Type 0 where
     pub told : reads ≡ true → TellsRead (row_here reads).replies
     pub on_disk : PutsRow g reads (row_here reads) (at_work session before) (at_work new.session now) result
-    pub answers : AnswersAnyway item (row_here reads) (at_work new.session now).it replies result
+    pub answers : AnswersAnyway (row_here reads) (at_work new.session now).it replies result
 
-  by-answers : (row : Row) (result : Result ⊤ Stop) (replies : List ℕ) → Answers g item (at_work session before) row (at_work new.session now) replies result
-      → AnswersAnyway item row (at_work new.session now).it replies result
+  by-answers : (row : Row) (result : Result ⊤ DiskFault) (replies : List ℕ) → Answers g (at_work session before) row (at_work new.session now) replies result
+      → AnswersAnyway row (at_work new.session now).it replies result
   by-answers row (Ok done) replies given = (given.1, given.2, given.3)
-  by-answers row (Err stop.Disk) replies given = tt
-  by-answers row (Err stop.OutOfMemory) replies given = given
+  by-answers row (Err fault) replies given = tt
 
   -- over what memory tells no read decides the row
   looks-at : ¬ IsKnown g before.disk → (looks : LookAtNone (caller_of session) moment (session_on g session before) (item ∷ []))
@@ -77,7 +75,7 @@ module _ {D : Type 0} (g : Ghosts D) (on : (first second third : D) → g.lasts 
       subst (λ (store : Store). session_row (caller_of session) moment store before.lists (state_in before.store session) item reads ≡ looks.0)
       (on_untold g before.store before.disk ready unknown) (looks.1 reads)
 
-  is-by : (result : Result ⊤ Stop) (replies : List ℕ) (takes : Takes result replies) → IsBy result replies takes.fails
+  is-by : (result : Result ⊤ DiskFault) (replies : List ℕ) (takes : Takes result replies) → IsBy result replies takes.fails
   is-by result replies takes =
       elim seen [
         | inl known ↦ record { told = takes.told known; on_disk = takes.on_disk known; answers = by-answers (row_here takes.fails) result replies (takes.answers known) }
@@ -86,12 +84,12 @@ module _ {D : Type 0} (g : Ghosts D) (on : (first second third : D) → g.lasts 
             subst (IsBy result replies) (sym any.0) (record {
               told = λ is. absurd (cc is);
               on_disk = subst (λ (row : Row). PutsRow g false row (at_work session before) (at_work new.session now) result) (sym (alone.1.1 false)) any.1.on_disk;
-              answers = subst (λ (row : Row). AnswersAnyway item row (at_work new.session now).it replies result) (sym (alone.1.1 false)) any.1.answers;
+              answers = subst (λ (row : Row). AnswersAnyway row (at_work new.session now).it replies result) (sym (alone.1.1 false)) any.1.answers;
             })
       ]
 
   -- how many reads its row tells of
-  missed-is : (result : Result ⊤ Stop) (replies : List ℕ) (takes : Takes result replies) → one_if takes.fails ≡ failed_reads_told (row_here takes.fails).replies
+  missed-is : (result : Result ⊤ DiskFault) (replies : List ℕ) (takes : Takes result replies) → one_if takes.fails ≡ failed_reads_told (row_here takes.fails).replies
   missed-is result replies takes =
       sym (told-is (caller_of session) moment (store_on g before.store before.disk) item (working session before.store before.lists) takes.fails (is-by result replies takes).told)
 
@@ -116,12 +114,12 @@ module _ {D : Type 0} (g : Ghosts D) (on : (first second third : D) → g.lasts 
             ∙ ap (λ (row : Row). after_all (store_on g before.store before.disk) row.commands) (sym (alone.1.1 takes.fails))
       ]
 
-  abbrev Made : Fate × Result ⊤ Stop → Type 0
+  abbrev Made : Fate × Result ⊤ DiskFault → Type 0
   Made told =
       TakesPackets g w (taking_some g moment session before end (item ∷ []) first) (IsAmong first 1) (at before.store before.disk) now (none_left new.link new.session) told
 
   -- what came of these parts
-  abbrev By : Progress → Fate → Result ⊤ Stop → Type 0
+  abbrev By : Progress → Fate → Result ⊤ DiskFault → Type 0
   By p fate result = HearsBy g w (λ failures. progressed [] p) (at before.store before.disk) now (none_left new.link new.session) fate result
 
   -- the store is so, whether the replies fit or not
@@ -162,22 +160,11 @@ module _ {D : Type 0} (g : Ghosts D) (on : (first second third : D) → g.lasts 
       }
 
   -- the disk failed, and code 3 is queued, or the link given up
-  pub said-fault : (text replies : List ℕ) → text ≡ replies → StandsFor w new.link (replied end text) → Takes (Err stop.Disk) replies → Made (Ends, Err stop.Disk)
-  said-fault text replies same stands takes =
+  pub said-fault : (fault : DiskFault) (text replies : List ℕ) → text ≡ replies → StandsFor w new.link (replied end text) → Takes (Err fault) replies → Made (Ends, Err fault)
+  said-fault fault text replies same stands takes =
       let row : Row = row_here takes.fails in
-      let none : 0 ≡ failed_reads_told row.replies = sym (ap one_if takes.stopped.0) ∙ missed-is (Err stop.Disk) replies takes in
+      let none : 0 ≡ failed_reads_told row.replies = sym (ap one_if takes.stopped.0) ∙ missed-is (Err fault) replies takes in
       let cut : CutsOffAmongReads g ⊤ (failed_reads_told row.replies) (at before.store before.disk) (at now.store now.disk) [] row.commands =
-      record { then_is = at before.store before.disk; first = none-yet (failed_reads_told row.replies) none; second = (is-by (Err stop.Disk) replies takes).on_disk } in
-      let at = subst (λ p. By p Ends (Err stop.Disk)) (sym (one-fails takes.fails)) (first, refl, (takes.stopped.2, (refl, rw (same ∙ takes.stopped.3) at stands)), cut) in
-      record { parts = at_part takes.fails first; among = All-at (IsAmong first 1) takes.fails first (omega arith, omega arith); by = (first, at.1, at.2, at.3); store = λ fine. absurd (cc fine) }
-
-  -- there was no memory for it
-  pub said-none : (replies : List ℕ) → Takes (Err stop.OutOfMemory) replies → Made (Stays, Err stop.OutOfMemory)
-  said-none replies takes =
-      let row : Row = row_here takes.fails in
-      let none : 0 ≡ failed_reads_told row.replies = sym (ap one_if takes.stopped.0) ∙ missed-is (Err stop.OutOfMemory) replies takes in
-      let still : now.disk ≡ before.disk = ap (λ (on : AtDisk Working D). on.disk) takes.stopped.1 in
-      let same : now.store ≡ before.store = ap (λ (on : AtDisk Working D). on.it.store) takes.stopped.1 in
-      let does : DoesAmongReads g ⊥ (failed_reads_told row.replies) before.store now.store before.disk now.disk [] = rw (still, same) (none-yet (failed_reads_told row.replies) none) in
-      let at = subst (λ p. By p Stays (Err stop.OutOfMemory)) (sym (one-fails takes.fails)) (first, refl, refl, does) in
+      record { then_is = at before.store before.disk; first = none-yet (failed_reads_told row.replies) none; second = (is-by (Err fault) replies takes).on_disk } in
+      let at = subst (λ p. By p Ends (Err fault)) (sym (one-fails takes.fails)) (first, refl, (takes.stopped.2, (refl, rw (same ∙ takes.stopped.3) at stands)), cut) in
       record { parts = at_part takes.fails first; among = All-at (IsAmong first 1) takes.fails first (omega arith, omega arith); by = (first, at.1, at.2, at.3); store = λ fine. absurd (cc fine) }

@@ -14,7 +14,7 @@ use Rattle.file_store.specs.Store.{Store}
 use Rattle.file_store.specs.Working.{DoesAmongReads, one_if}
 use Rattle.file_store.proofs.Offered.{among-at, among-same, among-store, among-then, does-among, Does-none, known_on, puts-among-then}
 use Rattle.ftl0_session.specs.Uploads.Failures.{Failure, failed_reads, read_fails}
-use Rattle.disk_model.specs.declared.halt.Halt.{Halt as Stop}
+use Rattle.disk_model.specs.declared.disk.DiskFault.{DiskFault}
 use Rattle.ftl0_session.specs.SessionState.{WorkingOn, state_in}
 use Rattle.ftl0_session.specs.Table.{DuePacket, State, due_at, next_due, tells_failed_read}
 use Rattle.disk_model.specs.AtDisk.{AtDisk}
@@ -179,14 +179,14 @@ module _ {D : Type 0} (g : Ghosts D) (lasts : (disk : D) → g.lasts disk disk) 
 
     -- it stopped, and nothing is queued
     module _ (now : WorkingOn D) (new : ConnectionState) (over : (failures : List Failure) → (event failures).halt ≡ fails → (event failures).over ≡ true) (parts : List ℕ) where
-      abbrev By : Fate → Result ⊤ Stop → Progress → Type 0
+      abbrev By : Fate → Result ⊤ DiskFault → Progress → Type 0
       By fate result p = HearsBy g w (λ writes. progressed left p) before now new fate result
 
-      by-stopped : (fate : Fate) (result : Result ⊤ Stop) → IsStop (fate, result) → HearsBy g w (λ writes. progressed left (event (writes ++ failed_reads parts))) before now new fate result
+      by-stopped : (fate : Fate) (result : Result ⊤ DiskFault) → IsStop (fate, result) → HearsBy g w (λ writes. progressed left (event (writes ++ failed_reads parts))) before now new fate result
           → HearsBy g w (λ writes. progressed left (whole (writes ++ failed_reads parts))) before now new fate result
       by-stopped fate result stops h = grind (arith, common_steps)
 
-    pub hears-stop : (now : WorkingOn D) (new : ConnectionState) (told : Fate × Result ⊤ Stop) → IsStop told → HearsParts g w left event before now new told
+    pub hears-stop : (now : WorkingOn D) (new : ConnectionState) (told : Fate × Result ⊤ DiskFault) → IsStop told → HearsParts g w left event before now new told
         → Hears g w (λ failures. progressed left (whole failures)) before now new told
     hears-stop now new told stops heard = record {
       parts = heard.hears.parts;

@@ -1,10 +1,10 @@
 -- What packets leave for the next one, and how a connection takes octets, piece by piece.
 use Rattle.std.proofs.lemmas.Grind.{common_steps}
 use Rattle.std.proofs.Common.{arith, ◌≡◌, ℕ, ◌+◌, List, [], ◌∷◌, ◌++◌, length, refl, ap, sym, ◌∙◌, subst}
-use Rattle.std.specs.Prelude.{None, Result, Ok, Err, ⊤}
+use Rattle.std.specs.Prelude.{None, Result, Ok, IsErr, ⊤}
 use Rattle.std.proofs.lemmas.List.Elements.{All-nil}
 use Rattle.disk_model.specs.declared.disk.Disk.{Ghosts}
-use Rattle.ax25_link.specs.declared.state.LinkState.TheVariants.{Up}
+use Rattle.ax25_link.specs.declared.state.LinkState.TheVariants.{Up, Down}
 use Rattle.ax25_link.specs.Kept.{Kept, SameStations}
 use Rattle.ftl0_packets.specs.Layout.{Item}
 use Rattle.packet_link.specs.PacketLink.{HasFront}
@@ -17,11 +17,10 @@ use Rattle.ftl0_session.specs.Uploads.Others.{KeepsOtherCallers}
 use Rattle.disk_model.specs.AtDisk.{AtDisk, at}
 use Rattle.ftl0_session.specs.Uploads.SessionState.{NoOtherOut, SessionState as Uploading}
 use Rattle.ftl0_session.specs.Downloads.Needs.{AreComplete}
-use Rattle.disk_model.specs.declared.halt.Halt.{Halt as Stop}
-use Rattle.disk_model.specs.declared.halt.Halt.TheVariants as stop
+use Rattle.disk_model.specs.declared.disk.DiskFault.{DiskFault}
 use Rattle.ftl0_session.specs.SessionState.{MayTake as SessionMayTake, SessionState, caller_of, new_session, WorkingOn, working_on}
 use Rattle.ftl0_server.specs.declared.connection.fate.Fate.{Fate}
-use Rattle.ftl0_server.specs.declared.connection.fate.Fate.TheVariants.{Stays}
+use Rattle.ftl0_server.specs.declared.connection.fate.Fate.TheVariants.{Stays, Ends}
 use Rattle.ftl0_server.specs.AtPlace.{GivesUp}
 use Rattle.ftl0_server.specs.Connection.ConnectionState.{ConnectionState}
 use Rattle.ftl0_server.specs.Connection.Feeding.{Feeds, FeedsAll, IsAmong, IsGoing, KeepsFit, LeavesFit, MayQueue, MayTake, TakesSome, carrying}
@@ -31,17 +30,18 @@ use Rattle.ftl0_server.proofs.connection.Invariants.{IsTaking}
 -- ---- what is left for the next packet
 
 -- no stop
-abbrev pub fine : Result ⊤ Stop
+abbrev pub fine : Result ⊤ DiskFault
 fine = Ok tt
 
-pub no-fault : fine ≡ Err stop.Disk → ⊥
+pub no-fault : IsErr fine → ⊥
 no-fault same = cc
 
 module _ {D : Type 0} (g : Ghosts D) where
   -- a frame without packets was heard
   pub fit-heard : (on : WorkingOn D) (link link_n : Kept) (session : SessionState) (fate : Fate) → g.lasts on.disk on.disk → SessionMayTake g on.store on.disk on.lists session
-      → (fate ≡ Stays → link_n.state ≡ Up) → SameStations link link_n → LeavesFit g (at on.store on.disk) on link link_n session session (fate, Ok tt)
-  fit-heard on link link_n session fate lasts may up stations = grind (arith, common_steps, puts-among, puts_none)
+      → (fate ≡ Stays → link_n.state ≡ Up) → (fate ≡ Ends → link_n.state ≡ Down) → SameStations link link_n
+      → LeavesFit g (at on.store on.disk) on link link_n session session (fate, Ok tt)
+  fit-heard on link link_n session fate lasts may up down stations = grind (arith, common_steps, puts-among, puts_none)
 
   -- a session began anew, over a store that has only given up the upload of the one before
   pub fit-anew : (on : WorkingOn D) (store_n : StoreState) (link link_n : Kept) (session session_n : SessionState) → g.lasts on.disk on.disk → SessionMayTake g on.store on.disk on.lists session
@@ -51,7 +51,7 @@ module _ {D : Type 0} (g : Ghosts D) where
   fit-anew on store_n link link_n session session_n lasts may gives_up anew only others up stations =
       let same : store_in store_n ≡ store_in on.store = in_parked on.store store_n gives_up.entries in
       rw anew (record {
-        puts = puts-among g (fine ≡ Err stop.Disk) on.disk on.disk (puts_none g on.disk (fine ≡ Err stop.Disk) no-fault lasts);
+        puts = puts-among g (IsErr fine) on.disk on.disk (puts_none g on.disk (IsErr fine) no-fault lasts);
         kept = λ number e found complete. ap (λ (s : Store). entry_of s number) same ∙ found;
         others = others;
         healthy = λ fine. ap (λ (p : Position). p.failed) gives_up.journal ∙ may.ready.healthy;
@@ -63,6 +63,7 @@ module _ {D : Type 0} (g : Ghosts D) where
           complete = subst (λ (s : Store). AreComplete s on.lists) (sym same) may.complete;
         };
         up = λ stays. up;
+        down = λ ends. absurd (cc ends);
         caller = refl;
         stations = stations;
       })
@@ -74,13 +75,13 @@ module _ {D : Type 0} (g : Ghosts D) where
 
   module _ (on : (first second third : D) → g.lasts first second → g.lasts second third → g.lasts first third) where
     -- one part, and then another
-    pub fit-then : (before : AtDisk StoreState D) (between now : WorkingOn D) (link link_m link_n : Kept) (session session_m session_n : SessionState) (told : Fate × Result ⊤ Stop)
+    pub fit-then : (before : AtDisk StoreState D) (between now : WorkingOn D) (link link_m link_n : Kept) (session session_m session_n : SessionState) (told : Fate × Result ⊤ DiskFault)
         → LeavesFit g before between link link_m session session_m (Stays, Ok tt) → LeavesFit g (at between.store between.disk) now link_m link_n session_m session_n told
         → LeavesFit g before now link link_n session session_n told
     fit-then before between now link link_m link_n session session_m session_n told first second =
         let later = rw first.caller at second.others in
         record {
-          puts = puts-among-then g on (fine ≡ Err stop.Disk) (told.1 ≡ Err stop.Disk) before.disk between.disk now.disk no-fault first.puts second.puts;
+          puts = puts-among-then g on (IsErr fine) (IsErr told.1) before.disk between.disk now.disk no-fault first.puts second.puts;
           kept = λ number e found complete. second.kept number e (first.kept number e found complete) complete;
           others = record {
             uploads = λ up theirs holds. later.uploads up theirs (first.others.uploads up theirs holds);
@@ -92,6 +93,7 @@ module _ {D : Type 0} (g : Ghosts D) where
           healthy = second.healthy;
           fit = second.fit;
           up = second.up;
+          down = second.down;
           caller = second.caller ∙ first.caller;
           stations = stations-then link link_m link_n first.stations second.stations;
         }
@@ -107,6 +109,7 @@ module _ {D : Type 0} (g : Ghosts D) where
       healthy = rw second.same first.healthy;
       fit = rw (second.same, lists, second.uploads) (record { stands_on = second.ready.stands_on; held = first.fit.held; only = first.fit.only; due = second.due; complete = first.fit.complete });
       up = λ stays. second.up;
+      down = λ ends. absurd (cc ends);
       caller = ap (λ (u : Uploading). u.caller) second.uploads ∙ first.caller;
       stations = stations-then link mid.link new.link first.stations second.stations;
     }
@@ -127,11 +130,11 @@ module _ {D : Type 0} (g : Ghosts D) where
             store = λ fine. refl;
           };
         };
-        fit = fit-heard before old.link old.link old.session Stays lasts may.may (λ stays. may.up) (stations-same old.link);
+        fit = fit-heard before old.link old.link old.session Stays lasts may.may (λ stays. may.up) (λ ends. absurd (cc ends)) (stations-same old.link);
       }
 
       -- some packets, and then one
-      module _ (mid new : ConnectionState) (between now : WorkingOn D) (told : Fate × Result ⊤ Stop) (item : Item) (h : IsTaking g moment old mid before between)
+      module _ (mid new : ConnectionState) (between now : WorkingOn D) (told : Fate × Result ⊤ DiskFault) (item : Item) (h : IsTaking g moment old mid before between)
           (front : HasFront mid.octets new.octets (item ∷ [])) (takes : TakesSome g moment mid between (item ∷ []) now new told) where
         feeds-one : Feeds g moment old new before now told
         feeds-one = record {

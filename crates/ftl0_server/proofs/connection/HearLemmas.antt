@@ -22,7 +22,7 @@ use Rattle.ftl0_session.specs.declared.uploads.phase.Phase.{Phase}
 use Rattle.disk_model.specs.AtDisk.{at}
 use Rattle.ftl0_session.specs.Uploads.Failures.{Failure, write_fails}
 use Rattle.ftl0_session.specs.Uploads.SessionState.{Parks}
-use Rattle.disk_model.specs.declared.halt.Halt.{Halt as Stop}
+use Rattle.disk_model.specs.declared.disk.DiskFault.{DiskFault}
 use Rattle.ftl0_session.specs.Table.{State}
 use Rattle.ftl0_session.specs.SessionState.{WorkingOn, working_on}
 use Rattle.ftl0_session.specs.Run.{session_over}
@@ -68,7 +68,7 @@ module _ {D : Type 0} (g : Ghosts D) (lasts : (disk : D) → g.lasts disk disk) 
       → HearsParts g w left (λ failures. record (resting end state on.lists 0) { over = true }) (at on.store on.disk) (working_on store_n on.lists on.disk) connection (Ends, Ok tt)
   parts-over stands = grind (arith, common_steps, does-nothing, on_parked)
 
-module _ {D : Type 0} (g : Ghosts D) (w : Window) (moment : ℕ) (frame : FrameValue) (before now : WorkingOn D) (new : ConnectionState) (result : Fate × Result ⊤ Stop) where
+module _ {D : Type 0} (g : Ghosts D) (w : Window) (moment : ℕ) (frame : FrameValue) (before now : WorkingOn D) (new : ConnectionState) (result : Fate × Result ⊤ DiskFault) where
   -- what was heard of these octets, by what the link told
   abbrev Told : Heard → Connected → LinkEnd → List ℕ → Type 0
   Told told c end octets =

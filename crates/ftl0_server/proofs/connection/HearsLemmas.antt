@@ -16,8 +16,7 @@ use Rattle.file_store.specs.OnDisk.{MakesFirst}
 use Rattle.file_store.specs.State.{StoreState, store_on}
 use Rattle.file_store.proofs.Offered.{after_all-append, among-then, cuts-among-all, cuts-among-then, known_back, known_on, makes-first, makes-within, told_weaker, weaker}
 use Rattle.ftl0_session.specs.Uploads.Failures.{Failure, failed_reads, failed_write, write_fails}
-use Rattle.disk_model.specs.declared.halt.Halt.{Halt as Stop}
-use Rattle.disk_model.specs.declared.halt.Halt.TheVariants as stop
+use Rattle.disk_model.specs.declared.disk.DiskFault.{DiskFault}
 use Rattle.ftl0_session.specs.SessionState.{SessionState, WorkingOn, caller_of}
 use Rattle.ftl0_session.specs.Table.{State}
 use Rattle.disk_model.specs.AtDisk.{AtDisk, at}
@@ -29,7 +28,7 @@ use Rattle.ftl0_server.specs.Connection.Feeding.{HearsParts, IsAmong, IsGoing, I
 use Rattle.ftl0_server.specs.Connection.Hearing.{Happened, progressed}
 use Rattle.ftl0_server.specs.Connection.Taking.{Halt, LookAtNone, Progress, fails, goes_on, taking}
 use Rattle.ftl0_server.proofs.connection.FailureLemmas.{AreWrites, alike-first, alike-second, none-writes, one-writes, other-part, reads-among, same-part, writes-none}
-use Rattle.ftl0_server.proofs.connection.TakingLemmas.{IsFront, behind, front-part, going, is_going, looks-first, looks-on, on_from, taking-alike, taking-begins, taking-ended, taking-failed, taking-fails, taking-on, taking-part}
+use Rattle.ftl0_server.proofs.connection.TakingLemmas.{IsFront, behind, going, is_going, looks-first, looks-on, on_from, taking-alike, taking-begins, taking-ended, taking-failed, taking-fails, taking-on, taking-part}
 
 -- the first of some commands, for some number of them, are the first of more commands
 pub leaves-front : {D : Type 0} (g : Ghosts D) (store : Store) (disk disk_n : D) (front all : List Command) → IsFront front all → Leaves g disk disk_n (λ _. MakesFirst store front)
@@ -55,7 +54,7 @@ going-halted : (progress : Progress) (halt : Halt) → is_going halt ≡ false �
 going-halted progress halt never is = ap (λ (h : Halt). not progress.over && is_going h) is ∙ ap (λ (b : Bool). not progress.over && b) never ∙ not-both (not progress.over)
 
 -- a frame stopped the connection
-abbrev pub IsStop : Fate × Result ⊤ Stop → Type 0
+abbrev pub IsStop : Fate × Result ⊤ DiskFault → Type 0
 IsStop told = IsGoing told → ⊥
 
 -- what is known or looked at for packets is for the first of them
@@ -71,14 +70,12 @@ module _ {D : Type 0} (g : Ghosts D) (on : (first second third : D) → g.lasts 
   abbrev pub BeginsWhole : (List Failure → Happened) → Type 0
   BeginsWhole event = (part : ℕ) → IsFront ((event (failed_write part)).done ++ (event (failed_write part)).cut) (event []).done
 
-  pub by-since : (event : List Failure → Happened) (before : AtDisk StoreState D) (now : WorkingOn D) (connection : ConnectionState) (fate : Fate) (result : Result ⊤ Stop)
+  pub by-since : (event : List Failure → Happened) (before : AtDisk StoreState D) (now : WorkingOn D) (connection : ConnectionState) (fate : Fate) (result : Result ⊤ DiskFault)
       → BeginsWhole event → HearsBy g w event before now connection fate result → Leaves g before.disk now.disk (λ _. MakesFirst (store_on g before.it before.disk) (event []).done)
   by-since event before now connection fate (Ok done) begins h = h.2.since
-  by-since event before now connection fate (Err stop.Disk) begins h =
+  by-since event before now connection fate (Err fault) begins h =
       leaves-front g (store_on g before.it before.disk) before.disk now.disk _ _ (begins h.0)
       (cuts-among-all g on ⊤ (event (failed_write h.0)).missed before (at now.store now.disk) (event (failed_write h.0)).done (event (failed_write h.0)).cut h.3).since
-  by-since event before now connection fate (Err stop.OutOfMemory) begins h =
-      leaves-front g (store_on g before.it before.disk) before.disk now.disk _ _ (front-part (event (failed_write h.0)).done (event (failed_write h.0)).cut (event []).done (begins h.0)) h.3.since
 
   -- so it is of packets
   pub taking-whole : (left : List ℕ) (caller : CallSign) (moment : ℕ) (session : Session) (end : LinkEnd) (items : List Item) (parts : List ℕ) (first : ℕ)
@@ -149,33 +146,28 @@ module _ {D : Type 0} (g : Ghosts D) (on : (first second third : D) → g.lasts 
         let there = taking-fails (caller_of mid.session) moment (session_on g mid.session between) made.end others (failed_write part ++ failed_reads parts) next halts in
         same (failed_write part) parts (one-writes part) (λ n low. other-part part n (λ here. omega (arith, same-part part there.0 parts there.2, here, there.1))) later
 
-    abbrev By : Fate → Result ⊤ Stop → Progress → Type 0
+    abbrev By : Fate → Result ⊤ DiskFault → Progress → Type 0
     By fate result p = HearsBy g w (λ failures. progressed [] p) (at before.store before.disk) now (none_left new.link new.session) fate result
 
-    by-then : (parts : List ℕ) → All (λ part. next ≤ part) parts → (fate : Fate) (result : Result ⊤ Stop)
+    by-then : (parts : List ℕ) → All (λ part. next ≤ part) parts → (fate : Fate) (result : Result ⊤ DiskFault)
         → HearsBy g w (λ writes. progressed [] (part_of (writes ++ failed_reads parts))) (at between.store between.disk) now (none_left new.link new.session) fate result
         → HearsBy g w (λ writes. progressed [] (whole (writes ++ failed_reads (one.parts ++ parts)))) (at before.store before.disk) now (none_left new.link new.session) fate result
     by-then parts later fate (Ok done) h =
         let part : Progress = part_of ([] ++ failed_reads parts) in
         subst (By fate (Ok done)) (sym (same [] parts none-writes (λ n low. refl) later))
         (h.0, h.1, among-then g on ⊥ ⊥ made.missed part.missed _ _ _ _ _ _ made.done part.done (λ never. never) one.by.2 h.2)
-    by-then parts later fate (Err stop.Disk) h =
+    by-then parts later fate (Err fault) h =
         let part : Progress = part_of (failed_write h.0 ++ failed_reads parts) in
-        let is = subst (By fate (Err stop.Disk)) (sym (same-fault h.0 parts later h.1)) (
+        let is = subst (By fate (Err fault)) (sym (same-fault h.0 parts later h.1)) (
           h.0,
           h.1,
           h.2,
           cuts-among-then g on ⊤ made.missed part.missed (at before.store before.disk) (at between.store between.disk) (at now.store now.disk) made.done part.done part.cut one.by.2 h.3,
         ) in
         (h.0, is.1, is.2, is.3)
-    by-then parts later fate (Err stop.OutOfMemory) h =
-        let part : Progress = part_of (failed_write h.0 ++ failed_reads parts) in
-        let at = subst (By fate (Err stop.OutOfMemory)) (sym (same-fault h.0 parts later h.1))
-        (h.0, h.1, h.2, among-then g on ⊥ ⊥ made.missed part.missed _ _ _ _ _ _ made.done part.done (λ never. never) one.by.2 h.3) in
-        (h.0, at.1, at.2, at.3)
 
     -- packets were taken, and then the others
-    pub takes-then : (told : Fate × Result ⊤ Stop)
+    pub takes-then : (told : Fate × Result ⊤ DiskFault)
         → ((there : LinkEnd) → StandsFor w mid.link there → TakesPackets g w (taking_some g moment mid.session between there others next) (IsAmong next (length others)) (at between.store between.disk) now (none_left new.link new.session) told)
         → TakesPackets g w (taking_some g moment old.session before end (items ++ others) first) (IsAmong first (length (items ++ others))) (at before.store before.disk) now (none_left new.link new.session) told
     takes-then told more =
@@ -210,7 +202,7 @@ module _ {D : Type 0} (g : Ghosts D) (on : (first second third : D) → g.lasts 
       ended : (failures : List Failure) → going (of_items failures) ≡ false → of_all failures ≡ of_items failures
       ended failures stops = taking-ended (caller_of session) moment (session_on g session before) end items others failures 0 stops
 
-      abbrev To : Fate → Result ⊤ Stop → Progress → Type 0
+      abbrev To : Fate → Result ⊤ DiskFault → Progress → Type 0
       To fate result p = HearsBy g w (λ failures. progressed left p) (at before.store before.disk) now new fate result
 
       -- a session that is over isn't carried on
@@ -219,28 +211,27 @@ module _ {D : Type 0} (g : Ghosts D) (on : (first second third : D) → g.lasts 
       after-over Stays over at_end state is h = absurd (let e : false ≡ true = sym h.0 ∙ is in cc)
       after-over Ends over at_end state is h = h
 
-      by-ended : (parts : List ℕ) (fate : Fate) (result : Result ⊤ Stop) → IsStop (fate, result)
+      by-ended : (parts : List ℕ) (fate : Fate) (result : Result ⊤ DiskFault) → IsStop (fate, result)
           → HearsBy g w (λ writes. progressed [] (of_items (writes ++ failed_reads parts))) (at before.store before.disk) now (none_left new.link new.session) fate result
           → HearsBy g w (λ writes. progressed left (of_all (writes ++ failed_reads parts))) (at before.store before.disk) now new fate result
       by-ended parts fate (Ok done) stops h = grind (arith, common_steps, ended, going-over, taking-failed, going-halted)
-      by-ended parts fate (Err stop.Disk) stops h =
+      by-ended parts fate (Err fault) stops h =
           let failures : List Failure = failed_write h.0 ++ failed_reads parts in
           let over : (of_items failures).over ≡ true = taking-failed (caller_of session) moment (session_on g session before) end items failures 0 h.1 in
-          let is = subst (To fate (Err stop.Disk)) (sym (ended failures (going-over (of_items failures) over))) (h.0, h.1, (h.2.0, after-over fate _ _ _ over h.2.1), h.3) in
+          let is = subst (To fate (Err fault)) (sym (ended failures (going-over (of_items failures) over))) (h.0, h.1, (h.2.0, after-over fate _ _ _ over h.2.1), h.3) in
           (h.0, is.1, is.2, is.3)
-      by-ended parts fate (Err stop.OutOfMemory) stops h = grind (arith, common_steps, ended, going-over, taking-failed, going-halted)
 
-      store-ended : (parts : List ℕ) (fate : Fate) (result : Result ⊤ Stop) → IsStop (fate, result)
+      store-ended : (parts : List ℕ) (fate : Fate) (result : Result ⊤ DiskFault) → IsStop (fate, result)
           → HearsBy g w (λ writes. progressed [] (of_items (writes ++ failed_reads parts))) (at before.store before.disk) now (none_left new.link new.session) fate result
           → (result ≡ Ok tt → store_on g now.store now.disk ≡ after_all (store_on g before.store before.disk) (of_items ([] ++ failed_reads parts)).done)
           → result ≡ Ok tt → store_on g now.store now.disk ≡ after_all (store_on g before.store before.disk) (of_all ([] ++ failed_reads parts)).done
-      store-ended parts Stays result stops h store fine = absurd (stops (ap (λ (r : Result ⊤ Stop). (Stays, r)) fine))
+      store-ended parts Stays result stops h store fine = absurd (stops (ap (λ (r : Result ⊤ DiskFault). (Stays, r)) fine))
       store-ended parts Ends (Ok done) stops h store fine =
           rw (ended ([] ++ failed_reads parts) (going-over (of_items ([] ++ failed_reads parts)) h.1.1.0)) (store fine)
       store-ended parts Ends (Err why) stops h store fine = absurd (cc fine)
 
       -- whatever comes behind packets that stopped the connection isn't taken
-      pub parts-stopped : (told : Fate × Result ⊤ Stop) → IsStop told
+      pub parts-stopped : (told : Fate × Result ⊤ DiskFault) → IsStop told
           → TakesPackets g w (taking_some g moment session before end items 0) (IsAmong 0 (length items)) (at before.store before.disk) now (none_left new.link new.session) told
           → HearsParts g w left of_all (at before.store before.disk) now new told
       parts-stopped told stops takes =

@@ -9,7 +9,7 @@ use Rattle.ftl0_packets.specs.Layout.{Item}
 use Rattle.ftl0_packets.specs.Reading.{packets_of, rest_of}
 use Rattle.packet_link.proofs.Fronts.{front-whole}
 use Rattle.file_store.specs.State.{IsKnown, store_on}
-use Rattle.disk_model.specs.declared.halt.Halt.{Halt as Stop}
+use Rattle.disk_model.specs.declared.disk.DiskFault.{DiskFault}
 use Rattle.ftl0_session.specs.SessionState.{WorkingOn, caller_of, state_in}
 use Rattle.ftl0_session.specs.Table.{State}
 use Rattle.disk_model.specs.AtDisk.{at}
@@ -23,11 +23,11 @@ use Rattle.ftl0_server.proofs.KnownLemmas.{known-or-not}
 use Rattle.ftl0_server.proofs.connection.HearsLemmas.{IsStop, parts-stopped, parts-whole, seen-first}
 
 -- the connection goes on, or it stops
-going-or : (told : Fate × Result ⊤ Stop) → IsGoing told ⊎ IsStop told
+going-or : (told : Fate × Result ⊤ DiskFault) → IsGoing told ⊎ IsStop told
 going-or told = grind (arith, common_steps)
 
 module _ {D : Type 0} (g : Ghosts D) (on : (first second third : D) → g.lasts first second → g.lasts second third → g.lasts first third) (moment : ℕ) (old new : ConnectionState) (octets : List ℕ)
-    (before now : WorkingOn D) (told : Fate × Result ⊤ Stop) (peer : old.link.peer ≡ caller_of old.session) (seen : IsSeen g moment old.session before (packets_of (old.octets ++ octets))) (w : Window) (c : Connected) (is : IsConnection w before.store old c) where
+    (before now : WorkingOn D) (told : Fate × Result ⊤ DiskFault) (peer : old.link.peer ≡ caller_of old.session) (seen : IsSeen g moment old.session before (packets_of (old.octets ++ octets))) (w : Window) (c : Connected) (is : IsConnection w before.store old c) where
   -- what was heard, where these packets of these octets came, and others waited before
   abbrev Heard : CallSign → State → List ℕ → List Item → Type 0
   Heard caller state waiting items =

@@ -1,5 +1,5 @@
 -- How taking packets goes on, and how it stops.
-use Rattle.std.proofs.Common.{rules, ◌≡◌, ℕ, suc, ◌+◌, ◌≤◌, Bool, true, false, not, ◌&&◌, List, [], ◌∷◌, ◌++◌, length, refl, ap, sym, ◌∙◌, append_assoc, append-nil, arith}
+use Rattle.std.proofs.Common.{rules, ◌≡◌, ℕ, suc, ◌+◌, ◌≤◌, Bool, true, false, not, ◌&&◌, List, [], ◌∷◌, ◌++◌, length, refl, ap, sym, ◌∙◌, append-nil, arith}
 use Rattle.std.proofs.lemmas.Grind.{common_steps}
 use Rattle.std.specs.Prelude.{if◌then◌else◌}
 use Rattle.std.proofs.Math.Nat.{zero-add}
@@ -177,10 +177,6 @@ IsFront front all = (more : List Command) × (all ≡ front ++ more)
 
 pub front-same : (commands : List Command) → IsFront commands commands
 front-same commands = ([], sym (append-nil commands))
-
--- a front of a front
-pub front-part : (first second all : List Command) → IsFront (first ++ second) all → IsFront first all
-front-part first second all h = (second ++ h.0, h.1 ∙ append_assoc first second h.0)
 
 -- done, and where the disk failed those in one of which it did
 abbrev pub begun : Progress → List Command

@@ -1,8 +1,10 @@
 -- A connection as contracts see it, which of the definitions' it stands for, and what its calls do.
 use Rattle.std.specs.Prelude.{◌≡◌, ℕ, List, [], ◌++◌, Bool, true, false, Result, Ok, Err, ⊤}
+use Rattle.px_base.specs.CallSign.{CallSign}
 use Rattle.disk_model.specs.declared.disk.Disk.{Ghosts}
-use Rattle.ax25_link.specs.Kept.{Kept, StandsFor}
-use Rattle.ax25_link.specs.Window.{Window}
+use Rattle.ax25_link.specs.Kept.{HasStations, Kept, StandsFor}
+use Rattle.ax25_link.specs.Window.{Window, window_of}
+use Rattle.ax25_link.specs.declared.state.LinkState.TheVariants.{Up}
 use Rattle.ftl0_session.specs.Lists.Lists.{CallerList}
 use Rattle.file_store.specs.Calls.{Leaves}
 use Rattle.file_store.specs.Command.{after_all}
@@ -10,13 +12,12 @@ use Rattle.file_store.specs.OnDisk.{MakesFirst}
 use Rattle.file_store.specs.State.{StoreState, store_on}
 use Rattle.file_store.specs.Working.{CutsOffAmongReads, DoesAmongReads}
 use Rattle.ftl0_session.specs.Uploads.Failures.{Failure, failed_reads, failed_write}
-use Rattle.disk_model.specs.declared.halt.Halt.{Halt as Stop}
-use Rattle.disk_model.specs.declared.halt.Halt.TheVariants as stop
-use Rattle.ftl0_session.specs.SessionState.{SessionState, WorkingOn, state_in}
+use Rattle.disk_model.specs.declared.disk.DiskFault.{DiskFault}
+use Rattle.ftl0_session.specs.SessionState.{SessionState, WorkingOn, new_session, state_in}
 use Rattle.disk_model.specs.AtDisk.{AtDisk, at}
 use Rattle.ftl0_server.specs.declared.connection.fate.Fate.{Fate}
 use Rattle.ftl0_server.specs.declared.connection.fate.Fate.TheVariants.{Stays, Ends}
-use Rattle.ftl0_server.specs.Connection.Connected.{Connected}
+use Rattle.ftl0_server.specs.Connection.Connected.{Connected, answering}
 use Rattle.ftl0_server.specs.Connection.Hearing.{Happened}
 use Rattle.ftl0_server.specs.Connection.Taking.{fails, goes_on}
 
@@ -31,6 +32,17 @@ pub record IsConnection (w : Window) (store : StoreState) (connection : Connecti
   pub link : StandsFor w connection.link c.end
   pub rest : connection.octets ≡ c.rest
   pub state : state_in store connection.session ≡ c.state
+
+-- The connection over this link of a caller whose SABM with this P bit was answered at this moment; numbers are left in
+-- the caller's list, or not.
+pub record IsAnswered (link : Kept) (caller : CallSign) (poll : Bool) (moment : ℕ) (left : Bool)
+    (connection : ConnectionState) : Type 0 where
+  pub stands :
+      (store : StoreState)
+      → IsConnection (window_of link.k) store connection (answering link.me caller poll moment left)
+  pub stations : HasStations connection.link false link.me caller link.k
+  pub session : connection.session ≡ new_session caller
+  pub up : connection.link.state ≡ Up
 
 -- whether the session is over, as the code says it
 abbrev pub is_over : Fate → Bool
@@ -50,24 +62,18 @@ IsAfter w store lists connection happened fate =
 -- What a frame that is heard does, where `event` gives what it makes of the connection by the writes and syncs that
 -- fail in it. Where all was taken none failed, and its commands are done. Where the disk failed, at a write or a sync
 -- of some packet and nowhere else, the commands before it are done, and it failed in one of that packet's; the replies
--- before it and code 3 are left to be sent. Where there was no memory for some packet, the commands of the packets
--- before it are done, and its own aren't begun. The count of failed reads rose by at least as many as the parts told
--- of.
+-- before it and code 3 are left to be sent. The count of failed reads rose by at least as many as the parts told of.
 abbrev pub HearsBy :
     {D : Type 0} → Ghosts D → Window → (List Failure → Happened) → AtDisk StoreState D → WorkingOn D → ConnectionState
-    → Fate → Result ⊤ Stop → Type 0
+    → Fate → Result ⊤ DiskFault → Type 0
 HearsBy g w event before now connection fate (Ok done) =
     ((event []).halt ≡ goes_on) × IsAfter w now.store now.lists connection (event []) fate
     × DoesAmongReads g ⊥ (event []).missed before.it now.store before.disk now.disk (event []).done
-HearsBy g w event before now connection fate (Err stop.Disk) =
+HearsBy g w event before now connection fate (Err fault) =
     (part : ℕ) × ((event (failed_write part)).halt ≡ fails)
     × IsAfter w now.store now.lists connection (event (failed_write part)) fate
     × CutsOffAmongReads g ⊤ (event (failed_write part)).missed before (at now.store now.disk)
     (event (failed_write part)).done (event (failed_write part)).cut
-HearsBy g w event before now connection fate (Err stop.OutOfMemory) =
-    (part : ℕ) × ((event (failed_write part)).halt ≡ fails) × (fate ≡ Stays)
-    × DoesAmongReads g ⊥ (event (failed_write part)).missed before.it now.store before.disk now.disk
-    (event (failed_write part)).done
 
 -- what an event makes by the writes and syncs that fail in it, where reads fail at these parts
 abbrev pub with_reads : {X : Type 0} → (List Failure → X) → List ℕ → List Failure → X
@@ -78,7 +84,7 @@ with_reads event parts writes = event (writes ++ failed_reads parts)
 -- write and no sync fails, for some number of them. Where there was no stop the store is the one after all of them.
 pub record Hears {D : Type 0} (g : Ghosts D) (w : Window) (event : List Failure → Happened)
     (before : AtDisk StoreState D) (now : WorkingOn D) (connection : ConnectionState)
-    (heard : Fate × Result ⊤ Stop) : Type 0 where
+    (heard : Fate × Result ⊤ DiskFault) : Type 0 where
   pub parts : List ℕ
   pub by : HearsBy g w (with_reads event parts) before now connection heard.0 heard.1
   pub since :

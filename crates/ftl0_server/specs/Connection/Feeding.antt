@@ -1,9 +1,9 @@
 -- How a connection takes packets, and then queues what is due, part by part; and what each part leaves for the next
 -- one.
 use Rattle.std.specs.Prelude.{◌≡◌, ◌⊎◌, ℕ, ◌+◌, ◌<◌, ◌≤◌, List, [], ◌∷◌, ◌++◌, length, All, Bool, true, false}
-use Rattle.std.specs.Prelude.{None, Some, Result, Ok, IsErrOf, ⊤}
+use Rattle.std.specs.Prelude.{None, Some, Result, Ok, IsErr, ⊤}
 use Rattle.disk_model.specs.declared.disk.Disk.{Ghosts}
-use Rattle.ax25_link.specs.declared.state.LinkState.TheVariants.{Up}
+use Rattle.ax25_link.specs.declared.state.LinkState.TheVariants.{Up, Down}
 use Rattle.ax25_link.specs.Calls.{after_push}
 use Rattle.ax25_link.specs.Ends.{LinkEnd, free_octets}
 use Rattle.ax25_frames.specs.FrameText.{FrameValue}
@@ -22,15 +22,14 @@ use Rattle.file_store.specs.Working.{DoesAmongReads, PutsAmongReads, one_if}
 use Rattle.ftl0_session.specs.Uploads.Failures.{Failure, failed_reads}
 use Rattle.ftl0_session.specs.Uploads.Others.{KeepsOtherCallers}
 use Rattle.ftl0_session.specs.Downloads.Needs.{IsDueIn, MaySend}
-use Rattle.disk_model.specs.declared.halt.Halt.{Halt as Stop}
-use Rattle.disk_model.specs.declared.halt.Halt.TheVariants as stop
+use Rattle.disk_model.specs.declared.disk.DiskFault.{DiskFault}
 use Rattle.disk_model.specs.AtDisk.{AtDisk, at}
 use Rattle.ftl0_session.specs.Run.{Session, session_over}
 use Rattle.ftl0_session.specs.SessionState.{MayTake as SessionMayTake, SessionState, IsFit, WorkingOn, caller_of}
 use Rattle.ftl0_session.specs.SessionState.{state_in}
 use Rattle.ftl0_session.specs.Table.{DuePacket, next_due, tells_failed_read}
 use Rattle.ftl0_server.specs.declared.connection.fate.Fate.{Fate}
-use Rattle.ftl0_server.specs.declared.connection.fate.Fate.TheVariants.{Stays}
+use Rattle.ftl0_server.specs.declared.connection.fate.Fate.TheVariants.{Stays, Ends}
 use Rattle.ftl0_server.specs.Connection.Connected.{Connected}
 use Rattle.ftl0_server.specs.Connection.ConnectionState.{ConnectionState, Hears, HearsBy, IsConnection, with_reads}
 use Rattle.ftl0_server.specs.Connection.ConnectionState.{none_left}
@@ -61,18 +60,19 @@ pub record MayQueue {D : Type 0} (g : Ghosts D) (store : StoreState) (disk : D) 
 
 -- What packets leave of a link, a session, the store, the lists and the disk, whatever they were.
 pub record LeavesFit {D : Type 0} (g : Ghosts D) (before : AtDisk StoreState D) (now : WorkingOn D)
-    (link link_now : Kept) (session session_now : SessionState) (told : Fate × Result ⊤ Stop) : Type 0 where
-  pub puts : PutsAmongReads g (IsErrOf told.1 stop.Disk) before.disk now.disk
+    (link link_now : Kept) (session session_now : SessionState) (told : Fate × Result ⊤ DiskFault) : Type 0 where
+  pub puts : PutsAmongReads g (IsErr told.1) before.disk now.disk
   pub kept : KeepsComplete (store_in before.it) (store_in now.store)
   pub others : KeepsOtherCallers before.it now.store (caller_of session)
-  pub healthy : ¬ IsErrOf told.1 stop.Disk → now.store.journal.failed ≡ false
+  pub healthy : ¬ IsErr told.1 → now.store.journal.failed ≡ false
   pub fit : IsFit g now.store now.disk now.lists session_now
   pub up : told.0 ≡ Stays → link_now.state ≡ Up
+  pub down : told.0 ≡ Ends → now.store.journal.failed ≡ false → link_now.state ≡ Down
   pub caller : caller_of session_now ≡ caller_of session
   pub stations : SameStations link link_now
 
 -- nothing stopped the connection or the server
-abbrev pub IsGoing : Fate × Result ⊤ Stop → Type 0
+abbrev pub IsGoing : Fate × Result ⊤ DiskFault → Type 0
 IsGoing told = told ≡ (Stays, Ok tt)
 
 -- a connection with this link and this session, and these octets of which no packet was taken
@@ -97,7 +97,7 @@ taking_some g moment session on end items first failures =
 -- no stop the store is the one after all commands.
 pub record TakesPackets {D : Type 0} (g : Ghosts D) (w : Window) (event : List Failure → Happened)
     (IsPart : ℕ → Type 0) (before : AtDisk StoreState D) (now : WorkingOn D) (connection : ConnectionState)
-    (told : Fate × Result ⊤ Stop) : Type 0 where
+    (told : Fate × Result ⊤ DiskFault) : Type 0 where
   pub parts : List ℕ
   pub among : All IsPart parts
   pub by : HearsBy g w (with_reads event parts) before now connection told.0 told.1
@@ -114,7 +114,7 @@ IsSeen g moment session on items =
 -- where it is known what octets the files have, or none is looked at.
 abbrev pub TakesSome :
     {D : Type 0} → Ghosts D → ℕ → ConnectionState → WorkingOn D → List Item → WorkingOn D → ConnectionState
-    → (Fate × Result ⊤ Stop) → Type 0
+    → (Fate × Result ⊤ DiskFault) → Type 0
 TakesSome g moment old before items now new told =
     IsSeen g moment old.session before items → (w : Window) (end : LinkEnd) (first : ℕ) → StandsFor w old.link end
     → TakesPackets g w (taking_some g moment old.session before end items first) (IsAmong first (length items))
@@ -123,13 +123,13 @@ TakesSome g moment old before items now new told =
 -- So this one was.
 abbrev pub TakesOne :
     {D : Type 0} → Ghosts D → ℕ → Item → ConnectionState → ConnectionState → WorkingOn D → WorkingOn D
-    → (Fate × Result ⊤ Stop) → Type 0
+    → (Fate × Result ⊤ DiskFault) → Type 0
 TakesOne g moment item old new before now told = TakesSome g moment old before (item ∷ []) now new told
 
 -- Packets at the front of the octets were taken, up to one that stops the connection, if one does: the rest are those
 -- of the octets that are left now.
 pub record Feeds {D : Type 0} (g : Ghosts D) (moment : ℕ) (old new : ConnectionState) (before now : WorkingOn D)
-    (told : Fate × Result ⊤ Stop) : Type 0 where
+    (told : Fate × Result ⊤ DiskFault) : Type 0 where
   pub items : List Item
   pub front : HasFront old.octets new.octets items
   pub takes : TakesSome g moment old before items now new told
@@ -137,7 +137,7 @@ pub record Feeds {D : Type 0} (g : Ghosts D) (moment : ℕ) (old new : Connectio
 -- The packets of the octets were taken, up to one that stops the connection, if one does: if none does all of them, and
 -- the octets now are the rest.
 pub record FeedsAll {D : Type 0} (g : Ghosts D) (moment : ℕ) (old new : ConnectionState) (before now : WorkingOn D)
-    (told : Fate × Result ⊤ Stop) : Type 0 where
+    (told : Fate × Result ⊤ DiskFault) : Type 0 where
   pub left : List ℕ
   pub feeds : Feeds g moment old (carrying new.link left new.session) before now told
   pub none : IsGoing told → packets_of left ≡ []
@@ -158,7 +158,7 @@ pub record IsSettled (event : List Failure → Progress) (parts : List ℕ) : Ty
 -- isn't queued yet. Where a write or a sync fails the session is over.
 pub record HearsParts {D : Type 0} (g : Ghosts D) (w : Window) (left : List ℕ) (event : List Failure → Progress)
     (before : AtDisk StoreState D) (now : WorkingOn D) (connection : ConnectionState)
-    (told : Fate × Result ⊤ Stop) : Type 0 where
+    (told : Fate × Result ⊤ DiskFault) : Type 0 where
   pub hears : Hears g w (λ failures. progressed left (event failures)) before now connection told
   pub over : (failures : List Failure) → (event failures).halt ≡ fails → (event failures).over ≡ true
   pub settled : IsGoing told → IsSettled event hears.parts
@@ -167,7 +167,7 @@ pub record HearsParts {D : Type 0} (g : Ghosts D) (w : Window) (left : List ℕ)
 -- have, or no octet of a file is looked at, it is of that connection what the frame makes before what is due is queued.
 abbrev pub HearsFrameParts :
     {D : Type 0} → Ghosts D → ℕ → FrameValue → WorkingOn D → WorkingOn D → ConnectionState → ConnectionState
-    → Fate × Result ⊤ Stop → Type 0
+    → Fate × Result ⊤ DiskFault → Type 0
 HearsFrameParts g moment frame before now old new told =
     (w : Window) (c : Connected) → IsConnection w before.store old c
     → IsKnown g before.disk ⊎ LooksAtNone w moment (store_on g before.store before.disk) before.lists c frame
@@ -178,7 +178,7 @@ HearsFrameParts g moment frame before now old new told =
 -- So it is of the whole frame.
 abbrev pub HearsFrame :
     {D : Type 0} → Ghosts D → ℕ → FrameValue → WorkingOn D → WorkingOn D → ConnectionState → ConnectionState
-    → Fate × Result ⊤ Stop → Type 0
+    → Fate × Result ⊤ DiskFault → Type 0
 HearsFrame g moment frame before now old new told =
     (w : Window) (c : Connected) → IsConnection w before.store old c
     → IsKnown g before.disk ⊎ LooksAtNone w moment (store_on g before.store before.disk) before.lists c frame

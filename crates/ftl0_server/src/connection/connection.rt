@@ -1,12 +1,12 @@
 //! One caller's connection.
 
 ghost use Rattle.std.specs.Prelude.{◌≡◌, ◌<◌, ◌↔◌, [], ◌∷◌, ◌++◌, false, true, not};
-ghost use Rattle.std.specs.Prelude.{IfOk, IsTrue, None};
+ghost use Rattle.std.specs.Prelude.{IsTrue, None};
 ghost use Rattle.ax25_frames.specs.Values.{value_of};
-ghost use Rattle.ax25_link.specs.Kept.{Fits, HasStations, SameStations, StandsFor, Steps};
+ghost use Rattle.ax25_link.specs.Kept.{Fits, SameStations, StandsFor, Steps};
 ghost use Rattle.ax25_link.specs.Kept.{Tells, is_pending};
 ghost use Rattle.ax25_link.specs.declared.state.LinkState.{LinkState};
-ghost use Rattle.ax25_link.specs.Window.{IsGoodK, Window, window_of};
+ghost use Rattle.ax25_link.specs.Window.{Window};
 ghost use Rattle.ftl0_packets.specs.Reading.{is_whole, read_item};
 ghost use Rattle.ftl0_session.specs.Lists.Lists.{has_left};
 ghost use Rattle.file_store.specs.State.{StoreState, store_in};
@@ -14,8 +14,8 @@ ghost use Rattle.ftl0_session.specs.Uploads.Others.{KeepsOtherCallers};
 ghost use Rattle.disk_model.specs.AtDisk.{at};
 ghost use Rattle.ftl0_session.specs.Uploads.SessionState.{IsHeld, IsOnlyOut, NoOtherOut, Parks};
 ghost use Rattle.ftl0_session.specs.SessionState.{caller_of, new_session, working_on};
-ghost use Rattle.ftl0_server.specs.Connection.Connected.{Connected, answering, beginning, greeted};
-ghost use Rattle.ftl0_server.specs.Connection.ConnectionState.{ConnectionState as Carried, IsConnection};
+ghost use Rattle.ftl0_server.specs.Connection.Connected.{Connected, beginning, greeted};
+ghost use Rattle.ftl0_server.specs.Connection.ConnectionState.{ConnectionState as Carried, IsAnswered, IsConnection};
 ghost use Rattle.ftl0_server.specs.Connection.ConnectionState.{StandsAfter, none_left};
 ghost use Rattle.ftl0_server.specs.Connection.ConnectionState.{is_over};
 ghost use Rattle.ftl0_server.specs.Connection.Feeding.{FeedsAll, HearsFrame, HearsFrameParts, IsGoing, KeepsFit};
@@ -30,19 +30,18 @@ ghost use Rattle.packet_link.specs.Queuing.{fits};
 use crate::connection::Fate;
 use arrayvec::ArrayVec;
 use ax25_frames::Frame;
-use ax25_link::{Heard, Link, information};
-use disk_model::{Disk, Halt};
+use ax25_link::{Heard, information};
+use disk_model::{Disk, DiskFault};
 use file_store::FileStore;
 use ftl0_session::lists::Lists;
 use ftl0_session::{Replies, Session};
 use packet_link::PacketLink;
-use px_base::{Call, OutOfMemory};
-use std::alloc::Global;
+use px_base::Call;
 use std::marker::Model;
 use std::mem;
 
 /// What a frame that was heard did: what becomes of the session, and whether the server goes on.
-pub type Told = (Fate, Result<(), Halt>);
+pub type Told = (Fate, Result<(), DiskFault>);
 
 /// A caller's connection. It must be ended, which parks the session's upload. Contracts see it as a `ConnectionState`,
 /// and speak of the connections of the definitions that it stands for, whose links have all that was pushed, sent and
@@ -65,38 +64,33 @@ impl Model for Connection {
 }
 
 impl Connection {
-    /// The connection of a station whose SABM with this P bit is answered at this moment: UA is pending, and LOGIN_RESP
-    /// queued, which says whether numbers are left in the caller's list (AX.25 2.0, 2.4.3.1; FTL0 1990, LOGIN_RESP). At
-    /// most k I frames are outstanding at a time; `good_k(k)` holds. Takes memory, and fails only where there is none.
+    /// The connection of a station whose SABM with this P bit is answered at this moment, over a link in state Down
+    /// with nothing pending: UA is pending, and LOGIN_RESP queued, which says whether numbers are left in the caller's
+    /// list (AX.25 2.0, 2.4.3.1; FTL0 1990, LOGIN_RESP). Takes no memory.
     pub fn answer(
-        alloc: Global,
-        me: Call,
+        link: PacketLink,
         caller: Call,
-        k: u8,
         poll: bool,
         moment: u32,
         lists: &Lists,
-    ) -> Result<Connection, OutOfMemory>
-        requires { IsGoodK k }
-        ensures connection { IfOk result (λ connection. (store : StoreState) →
-            IsConnection (window_of k) store connection
-            (answering me caller poll moment (has_left lists.now caller))) }
-        ensures stations { IfOk result (λ connection. HasStations connection.link false me caller k) }
-        ensures session { IfOk result (λ connection. connection.session ≡ new_session caller) }
-        ensures up { IfOk result (λ connection. connection.link.state ≡ LinkState.Up) }
+    ) -> Connection
+        requires down { link.link.state ≡ LinkState.Down }
+        requires quiet { is_pending link.link ≡ false }
+        ensures { IsAnswered link.link caller poll moment (has_left lists.now caller) result }
     {
-        let mut link = PacketLink::answer(alloc, me, caller, k, poll)?;
+        let mut link = link;
+        link.accept(caller, poll);
         let session = greet(&mut link, caller, moment, lists);
-        Ok(Connection { link, session })
+        Connection { link, session }
     }
 
     /// Hears a frame of the caller at this moment, while nothing is pending (AX.25 2.0, 2.4; FTL0 1990): the frame's
     /// row of the link's table, and for information that is next in the stream the packets' rows of the session's
     /// table. Their commands are on the disk before any frame of the event is given out. A reply for which the link has
     /// no room ends the session by DM. Then DATA and DATA_END that are due are queued while at least 1,280 octets are
-    /// free. A read of the disk that fails is told by code 3, and the session goes on. After a stop nothing more is
-    /// queued, and the server goes on no further: after `Disk` the frames that are pending are given out first, code 3
-    /// among them; after want of memory none is. Takes memory, before a packet writes to the disk.
+    /// free. A read of the disk that fails is told by code 3, and the session goes on. After a fault nothing more is
+    /// queued, and the server goes on no further: the frames that are pending are given out first, code 3 among them.
+    /// Takes no memory.
     pub fn hear<D: Disk>(
         &mut self,
         disk: &mut D,
@@ -134,6 +128,7 @@ impl Connection {
         ensures session { self.new.session ≡ self.old.session }
         ensures octets { self.new.octets ≡ self.old.octets }
         ensures up { result ≡ Fate.Stays → self.new.link.state ≡ LinkState.Up }
+        ensures down { result ≡ Fate.Ends → self.new.link.state ≡ LinkState.Down }
         ensures stations { SameStations self.old.link self.new.link }
     {
         match self.link.tick() {
@@ -175,16 +170,16 @@ impl Connection {
 
     /// Ends the session, which parks its upload, and gives the link, which may have frames to give out still. Takes no
     /// memory.
-    pub fn end(self, store: &mut FileStore) -> Link
+    pub fn end(self, store: &mut FileStore) -> PacketLink
         requires { IsHeld store.old self.session.uploads }
-        ensures link { result ≡ self.link }
+        ensures link { result.link ≡ self.link }
         ensures parks { Parks store.old store.new self.session.uploads.phase }
         ensures only { IsOnlyOut store.old self.session.uploads → NoOtherOut store.new (caller_of self.session) None }
         ensures others { KeepsOtherCallers store.old store.new (caller_of self.session) }
     {
         let Connection { link, session } = self;
         session.end(store);
-        link.into_link()
+        link
     }
 
     /// Hears a frame, but that what is due isn't queued yet.
@@ -320,11 +315,10 @@ fn answer<D: Disk>(
     let mut replies = Replies::new();
     match session.take(disk, link.packet(), moment, store, lists, &mut replies) {
         Ok(()) => (reply(link, replies.as_slice()), Ok(())),
-        Err(Halt::Disk) => {
+        Err(fault) => {
             reply(link, replies.as_slice());
-            (Fate::Ends, Err(Halt::Disk))
+            (Fate::Ends, Err(fault))
         }
-        Err(Halt::OutOfMemory) => (Fate::Stays, Err(Halt::OutOfMemory)),
     }
 }
 
@@ -355,6 +349,7 @@ fn reply(link: &mut PacketLink, text: &[u8]) -> Fate
     ensures queued { Steps link.old.link link.new.link (λ w end. replied end text.now) }
     ensures over { Tells link.old.link (λ w end. not (fits end text.now)) (is_over result) }
     ensures up { result ≡ Fate.Stays → link.new.link.state ≡ LinkState.Up }
+    ensures down { result ≡ Fate.Ends → link.new.link.state ≡ LinkState.Down }
     ensures keeps { KeepsReader link.old link.new }
 {
     if text.len() > link.free() {

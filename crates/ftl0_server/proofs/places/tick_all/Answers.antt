@@ -4,6 +4,7 @@ use Rattle.std.specs.Prelude.{slice_get}
 use Rattle.std.proofs.lemmas.Option.{slice_get-get_or}
 use Rattle.file_store.proofs.Offered.{in_parked}
 use Rattle.file_store.specs.EntriesKept.{KeepsComplete}
+use Rattle.file_store.specs.Position.{Position}
 use Rattle.file_store.specs.Store.{Store}
 use Rattle.file_store.specs.State.{store_in}
 use Rattle.ftl0_server.specs.AtPlace.{IsPlace}
@@ -28,7 +29,8 @@ loop-i-preserved c =
     let works = c.tick.ensures.works in
     let kept = subst (λ (s : Store). KeepsComplete (store_in c.loop-i.store) s) (sym (in_parked c.loop-i.store c.tick.new.store c.tick.ensures.store.entries)) (λ number entry found whole. found) in
     let settles = λ (me : CallSign) (k : ℕ) (h : IsSettled me k c.loop-i.store c.loop-i.places).
-    settled-works me k c.loop-i.store c.tick.new.store c.loop-i.places c.loop-i.i old c.tick.new.self at h works kept in
+    settled-works me k c.loop-i.store c.tick.new.store c.loop-i.places c.loop-i.i old c.tick.new.self at h works kept
+    (λ fine. ap (λ (p : Position). p.failed) (sym c.tick.ensures.store.journal) ∙ fine) in
     let step : c.loop-i.i + 1 ≡ suc c.loop-i.i = add-one c.loop-i.i in
     record {
       silent = rw step (quiet-later c.loop-i.places c.loop-i.i c.tick.new.self c.loop-i.invariant.silent);

@@ -1,8 +1,7 @@
 -- A packet that is taken is answered by its replies, and one that stops the server by code 3, or not at all.
 use Rattle.std.proofs.lemmas.Grind.{common_steps}
 use Rattle.std.proofs.Common.{arith, refl, sym}
-use Rattle.ftl0_server.proofs.connection.AnswerLemmas.{said-done, said-fault, said-none}
-use Rattle.packet_link.proofs.Fronts.{stations-same}
+use Rattle.ftl0_server.proofs.connection.AnswerLemmas.{said-done, said-fault}
 use Rattle.ftl0_session.specs.SessionState.{working_on}
 use Rattle.ftl0_server.proofs.connection.connection.answer.Goals as goal
 use Rattle.ftl0_server.specs.Connection.ConnectionState.{none_left}
@@ -22,34 +21,27 @@ returns-in-Ok-clause-fit g c =
       healthy = c.in-Ok.ensures.healthy;
       fit = record { stands_on = c.in-Ok.ensures.stands_on; held = c.in-Ok.ensures.held; only = c.in-Ok.ensures.only; due = c.in-Ok.ensures.due; complete = c.in-Ok.ensures.complete };
       up = c.reply.ensures.up;
+      down = λ ends fine. c.reply.ensures.down ends;
       caller = c.in-Ok.ensures.caller;
       stations = c.reply.ensures.keeps.stations;
     }
 
-pub returns-in-Err-Disk-clause-takes : goal.returns-in-Err-Disk-clause-takes
-returns-in-Err-Disk-clause-takes g c seen w end first stands =
+pub returns-in-Err-clause-takes : goal.returns-in-Err-clause-takes
+returns-in-Err-clause-takes g c seen w end first stands =
     rw (sym c.packet.ensures)
-    (said-fault g.D.Disk g.met.D.Disk.lasts_on w end c.args.moment c.args.session.now (none_left c.reply-in-Err-Disk.new.link.link c.take.new.self) (working_on c.args.store.now c.args.lists.now c.args.disk.now) (working_on c.take.new.store c.take.new.lists c.take.new.disk) _ first c.requires.may.may.ready (rw (sym c.packet.ensures) at seen)
-    (g.met.D.Disk.lasts_same c.args.disk.now) _ _ c.as_slice-in-Err-Disk.ensures.value (c.reply-in-Err-Disk.ensures.queued w end stands) (rw c.in-Err-Disk.field-0-is at c.in-Err-Disk.ensures.takes))
+    (said-fault g.D.Disk g.met.D.Disk.lasts_on w end c.args.moment c.args.session.now (none_left c.reply-in-Err.new.link.link c.take.new.self) (working_on c.args.store.now c.args.lists.now c.args.disk.now) (working_on c.take.new.store c.take.new.lists c.take.new.disk) _ first c.requires.may.may.ready (rw (sym c.packet.ensures) at seen)
+    (g.met.D.Disk.lasts_same c.args.disk.now) c.in-Err.fault _ _ c.as_slice-in-Err.ensures.value (c.reply-in-Err.ensures.queued w end stands) c.in-Err.ensures.takes)
 
-pub returns-in-Err-Disk-clause-fit : goal.returns-in-Err-Disk-clause-fit
-returns-in-Err-Disk-clause-fit g c =
+pub returns-in-Err-clause-fit : goal.returns-in-Err-clause-fit
+returns-in-Err-clause-fit g c =
     record {
-      puts = (rw c.in-Err-Disk.field-0-is at c.in-Err-Disk.ensures.takes).puts;
-      kept = c.in-Err-Disk.ensures.kept;
-      others = c.in-Err-Disk.ensures.others;
+      puts = c.in-Err.ensures.takes.puts;
+      kept = c.in-Err.ensures.kept;
+      others = c.in-Err.ensures.others;
       healthy = λ fine. absurd (fine refl);
       fit = grind (arith, common_steps);
       up = λ stays. absurd cc;
-      caller = c.in-Err-Disk.ensures.caller;
-      stations = c.reply-in-Err-Disk.ensures.keeps.stations;
+      down = λ ends fine. (let failed = c.in-Err.ensures.failed refl in absurd cc);
+      caller = c.in-Err.ensures.caller;
+      stations = c.reply-in-Err.ensures.keeps.stations;
     }
-
-pub returns-in-Err-OutOfMemory-clause-takes : goal.returns-in-Err-OutOfMemory-clause-takes
-returns-in-Err-OutOfMemory-clause-takes g c seen w end first stands =
-    rw (sym c.packet.ensures)
-    (said-none g.D.Disk g.met.D.Disk.lasts_on w end c.args.moment c.args.session.now (none_left c.args.link.now.link c.take.new.self) (working_on c.args.store.now c.args.lists.now c.args.disk.now) (working_on c.take.new.store c.take.new.lists c.take.new.disk) _ first c.requires.may.may.ready (rw (sym c.packet.ensures) at seen)
-    (g.met.D.Disk.lasts_same c.args.disk.now) _ (rw c.in-Err-OutOfMemory.field-0-is at c.in-Err-OutOfMemory.ensures.takes))
-
-pub returns-in-Err-OutOfMemory-clause-fit : goal.returns-in-Err-OutOfMemory-clause-fit
-returns-in-Err-OutOfMemory-clause-fit g c = grind (arith, common_steps, stations-same)

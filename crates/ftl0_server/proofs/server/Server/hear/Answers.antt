@@ -14,4 +14,4 @@ returns-in-None g c =
     let found : position (has_caller (value_of c.args.frame.now).src) c.args.self.now.places ≡ None =
     subst (λ (s : ServerState). position (has_caller (value_of c.args.frame.now).src) s.places ≡ None) c.self.view_is (sym c.in-None.ensures) in
     stranger-event g.D.Disk c.args.self.now c.hear_stranger.new.self settled (value_of c.args.frame.now) c.args.moment c.args.disk.now found
-    c.requires.awaits.ready (g.met.D.Disk.lasts_same c.args.disk.now) c.hear_stranger.ensures.same c.hear_stranger.result c.hear_stranger.ensures.heard
+    c.requires.awaits.ready (g.met.D.Disk.lasts_same c.args.disk.now) c.hear_stranger.ensures.same c.hear_stranger.ensures.heard

@@ -1,5 +1,5 @@
 -- The frame is heard at the place of its sender's connection.
-use Rattle.std.proofs.Common.{◌⊎◌, inl, inr, set, refl, ap, subst, sym, ◌∙◌, rules, arith}
+use Rattle.std.proofs.Common.{◌⊎◌, inl, inr, set, refl, ap, subst, sym, ◌∙◌}
 use Rattle.std.proofs.lemmas.Option.{slice_get-get_or}
 use Rattle.ax25_frames.specs.Values.{value_of}
 use Rattle.ax25_link.specs.Kept.{is_there}
@@ -29,7 +29,12 @@ pub invariant_of-self : goal.invariant_of-self
 invariant_of-self g c =
     let found = rw (sym c.self.view_is) at c.requires.place in
     let within = found-within (has_caller (value_of c.args.frame.now).src) c.self.inside.places c.args.place found in
-    let at = slice_get-get_or c.self.inside.places c.args.place c.index-places-place.result within in search (rules, arith, settled-works)
+    let at = slice_get-get_or c.self.inside.places c.args.place c.index-places-place.result within in
+    record {
+      settled = settled-works c.self.inside.me c.self.inside.k c.self.inside.store c.hear.new.store c.self.inside.places c.args.place _ c.hear.new.self at c.self.invariant.settled
+          c.hear.ensures.works c.hear.ensures.keeps.kept (λ fine. (rw (sym c.self.view_is) at c.requires.awaits.awaits.ready.healthy));
+      complete = c.hear.ensures.complete;
+    }
 
 pub returns : goal.returns
 returns g c =

@@ -1,17 +1,17 @@
 -- By what the frame is.
-use Rattle.std.proofs.lemmas.Grind.{common_steps}
-use Rattle.std.proofs.Common.{◌≡◌, false, subst, sym, ◌∙◌, arith}
+use Rattle.std.proofs.Common.{◌≡◌, false, subst, sym, ◌∙◌}
 use Rattle.std.specs.Prelude.{◌&&◌}
 use Rattle.ax25_frames.specs.Values.{value_of}
 use Rattle.ftl0_server.specs.Server.{Server}
 use Rattle.ftl0_server.specs.ServerState.{IsServer}
-use Rattle.ftl0_server.proofs.HearLemmas.{stranger-at}
 use Rattle.ftl0_server.proofs.StepLemmas.{both-true, first-false, second-false, stranger-asks, stranger-calls, stranger-passed}
 use Rattle.ftl0_server.proofs.server.Server.hear_stranger.Goals as goal
 use Rattle.ftl0_server.proofs.server.Server.hear_stranger.Goals.{else-frame-via-then-frame+else-frame-2, else-frame-via-else-frame}
 
 pub returns-then-is_call-clause-heard : goal.returns-then-is_call-clause-heard
-returns-then-is_call-clause-heard c = grind (arith, common_steps, stranger-at, stranger-calls)
+returns-then-is_call-clause-heard c = λ store server is.
+    subst (λ (s : Server). IsServer store c.answer.new.self s)
+    (stranger-calls server (value_of c.args.frame.now) c.args.moment (sym c.is_call.ensures ∙ c.if-is_call.true)) (c.answer.ensures.heard store server is)
 
 pub returns-then-frame-2-clause-heard : goal.returns-then-frame-2-clause-heard
 returns-then-frame-2-clause-heard c = λ store server is.

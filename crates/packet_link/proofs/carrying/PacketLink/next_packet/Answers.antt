@@ -1,9 +1,7 @@
 -- What is taken is put to the packet under way.
 use Rattle.std.proofs.Common.{ℕ, List, ◌∷◌, subst, sym, ◌∙◌, arith, length-drop}
-use Rattle.ftl0_packets.specs.Reading.{packets_of, read_item, rest_of}
-use Rattle.ftl0_packets.proofs.OctetLemmas.{octets_from}
 use Rattle.packet_link.specs.Inside.{packet_link_state}
-use Rattle.packet_link.specs.PacketLink.{FindsPacket, PacketLinkState}
+use Rattle.packet_link.proofs.Names.{packets_of, read_item, rest_of, octets_from, FindsPacket, PacketLinkState}
 use Rattle.packet_link.proofs.ReaderLemmas.{some-of, waits-after, with-none}
 use Rattle.packet_link.proofs.carrying.PacketLink.next_packet.Goals as goal
 

@@ -1,8 +1,7 @@
 -- A link that is up stays so, unless what was told is that it is down.
 use Rattle.std.proofs.Common.{◌≡◌, ap, sym, ◌∙◌}
 use Rattle.ax25_frames.specs.Values.{value_of}
-use Rattle.ax25_link.specs.declared.state.Heard.TheVariants.{Bytes, Closed}
-use Rattle.packet_link.specs.PacketLink.{PacketLinkState}
+use Rattle.packet_link.proofs.Names.{Bytes, Closed, PacketLinkState}
 use Rattle.packet_link.proofs.LinkLemmas.{link-told-up, link-up}
 use Rattle.packet_link.proofs.carrying.PacketLink.take.Goals as goal
 

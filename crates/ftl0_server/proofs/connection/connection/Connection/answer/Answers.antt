@@ -1,15 +1,22 @@
 -- A connection that is answered has greeted its caller, and nothing waits.
-use Rattle.std.proofs.Common.{ap, ◌∙◌}
+use Rattle.std.proofs.lemmas.Grind.{common_steps}
+use Rattle.std.proofs.Common.{ap, ◌∙◌, arith}
 use Rattle.ax25_link.specs.Ends.{answering_end}
 use Rattle.ax25_link.specs.Window.{window_of}
 use Rattle.ftl0_packets.specs.Reading.{under_way}
 use Rattle.ftl0_session.specs.SessionState.{state_in}
 use Rattle.ftl0_server.proofs.connection.connection.Connection.answer.Goals as goal
 
-pub returns-clause-connection : goal.returns-clause-connection
-returns-clause-connection c store =
+pub returns : goal.returns
+returns c =
+    let link = c.args.link.link in
     record {
-      link = c.greet-session.ensures.queued (window_of c.args.k) (answering_end c.args.me c.args.caller c.args.poll) c.in_ok-link.ensures.end;
-      rest = ap under_way c.greet-session.ensures.keeps.reader ∙ c.in_ok-link.ensures.octets;
-      state = ap (state_in store) c.greet-session.ensures.session;
+      stands = λ store. record {
+        link = c.greet-session.ensures.queued (window_of link.k) (answering_end link.me c.args.caller c.args.poll) c.accept.ensures.end;
+        rest = ap under_way c.greet-session.ensures.keeps.reader ∙ c.accept.ensures.octets;
+        state = ap (state_in store) c.greet-session.ensures.session;
+      };
+      stations = grind (arith, common_steps);
+      session = c.greet-session.ensures.session;
+      up = c.greet-session.ensures.up;
     }
