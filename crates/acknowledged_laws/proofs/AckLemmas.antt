@@ -1,5 +1,5 @@
 -- Which row of a session's table replies UL_ACK_RESP.
-use Rattle.std.proofs.Common.{◌≡◌, ℕ, List, [], ◌∷◌, ◌++◌, ◌||◌, Bool, true, false, Option, None, Some, refl, sym, ◌∙◌, true≢false}
+use Rattle.std.proofs.Common.{◌≡◌, ℕ, List, [], ◌∷◌, ◌++◌, ◌||◌, Bool, true, false, None, refl, sym, ◌∙◌, true≢false}
 use Rattle.std.proofs.lemmas.Option.{IfSome_then}
 use Rattle.std.specs.Prelude.{Ok, IfSome}
 use Rattle.px_base.specs.CallSign.{CallSign}

@@ -1,28 +1,23 @@
 -- The files that a session or a server acknowledges stand.
 use Rattle.std.proofs.lemmas.Grind.{common_steps}
-use Rattle.std.proofs.Common.{◌≡◌, ◌⊎◌, inl, inr, ⊎_elim, ℕ, zero, suc, ◌+◌, ◌≤◌, ◌||◌, List, [], ◌∷◌, ◌++◌, length, Bool, true, false, Option, None, Some, refl, sym, ap, subst, ◌∙◌, append_assoc, append-nil, length-append, true≢false, arith}
-use Rattle.std.specs.Option.{option_or}
-use Rattle.std.specs.Prelude.{slice_index, Ok, Err, IfSome, IsErrOf, Result, if◌then◌else◌}
+use Rattle.std.proofs.Common.{◌≡◌, ◌⊎◌, inl, inr, ⊎_elim, ℕ, zero, suc, ◌+◌, ◌≤◌, List, [], ◌∷◌, ◌++◌, length, Bool, true, false, Option, None, Some, refl, sym, ap, subst, ◌∙◌, append_assoc, append-nil, length-append, true≢false, arith}
+use Rattle.std.specs.Prelude.{slice_index, Ok, Err, IsErrOf, Result}
 use Rattle.px_base.specs.CallSign.{CallSign}
 use Rattle.px_base.specs.Octets.{IsFront}
 use Rattle.disk_model.specs.declared.disk.Disk.{Ghosts}
-use Rattle.ftl0_packets.specs.Items.{kind_of_item, texts}
-use Rattle.ftl0_packets.specs.Layout.{Item, PacketValue, data_end, data_part, dir_long_cmd, dir_short_cmd, download_cmd, select_cmd, ul_ack_resp, ul_nak_resp, upload_cmd}
-use Rattle.pfh_items.specs.Faults.{fault_code}
+use Rattle.ftl0_packets.specs.Items.{texts}
+use Rattle.ftl0_packets.specs.Layout.{Item, PacketValue, data_end, ul_ack_resp}
 use Rattle.file_journal.specs.Through.{HadRoom, StandsThrough}
 use Rattle.file_journal.proofs.Offered.{done_stay, front_done, rises_all, told_weaker}
 use Rattle.file_store.specs.Command.{AreAllowed, Command, after_all, last_grow, seal}
 use Rattle.file_store.specs.OnDisk.{MakesBetween}
 use Rattle.file_store.specs.State.{IsKnown, store_form}
-use Rattle.file_store.specs.Store.{Entry, Holding, Store, complete, entry_of, octets_at, partial}
+use Rattle.file_store.specs.Store.{Entry, Holding, Store, complete, entry_of, partial}
 use Rattle.file_store.proofs.Offered.{AreAllowed-split, after_all-append}
 use Rattle.ftl0_session.specs.Answering.{SendsSome}
-use Rattle.ftl0_session.specs.Downloads.Table as download
-use Rattle.ftl0_session.specs.Downloads.Table.{DownloadRow, DownloadState, Due, ready}
 use Rattle.ftl0_session.specs.Laws.{AcknowledgedStandsLaw}
-use Rattle.ftl0_session.specs.Lists.Lists.{CallerList}
 use Rattle.ftl0_session.specs.Run.{Event, RunsOver, Sends, Session, event_row, session_over}
-use Rattle.ftl0_session.specs.Table.{Row, State, aborting, command, download_row, due_at, error_by, fault_reply, receiving, row_among, session_row, state_by, upload_row}
+use Rattle.ftl0_session.specs.Table.{Row, State, command, due_at, fault_reply, receiving, session_row}
 use Rattle.ftl0_session.specs.Uploads.Failures.{Failure, failed_reads, failed_write, read_fails}
 use Rattle.ftl0_session.specs.Uploads.Laws.{IsWhole}
 use Rattle.ftl0_session.specs.Uploads.Session as upload
@@ -45,7 +40,7 @@ use Rattle.server_node.specs.OnAir.Serving.{server_steps}
 use Rattle.ftl0_server.proofs.Offered.{serves}
 use Rattle.node.specs.Events.{NodeEvent}
 use Rattle.node.specs.Lent.{Seen}
-use Rattle.acknowledged_laws.proofs.AckLemmas.{Acks, IsAllGood, acks, is_ack, row-acks}
+use Rattle.acknowledged_laws.proofs.AckLemmas.{IsAllGood, acks, is_ack, row-acks}
 use Rattle.acknowledged_laws.specs.Acknowledged.{AcknowledgedSince, FileEnd, IsServerServed, IsSessionServed, MeetsEvent, ServerAcknowledgesLaw, ServerTakes, SessionAcknowledgesLaw, TakesPacket, row_of_end, taken_first}
 use Rattle.server_node.specs.OnAir.Served.{server_from}
 use Rattle.server_node.specs.Served.{IsUnrecovered, Run}
@@ -290,8 +285,6 @@ module _ (caller : CallSign) (start : Session) (first : List ℕ) where
 
   says-stopped : (why : NodeStop) (unsaid : Bool) (events : List Heard) (next : Heard) (earlier last : Made) (mid : Session) (cut : List Command) → RunsAs caller start events earlier mid
       → StopsAs caller why unsaid mid next last cut → Says caller start (earlier.done ++ last.done) first (first ++ (earlier.text ++ last.text))
-  says-stopped stop.OutOfMemory unsaid events next earlier last mid cut h stops =
-      says-last events earlier last mid [] h ([], sym (ap (λ (m : Made). m.text ++ []) stops.stops.1)) (no-ack mid [] last.done refl)
   says-stopped stop.AirWrite unsaid events next earlier last mid cut h stops =
       let row : Row = event_row caller mid.store mid.lists mid.state stops.met in
       let at = stops.stops in says-last events earlier last mid (row.replies ++ at.0) h at.3
@@ -303,6 +296,7 @@ module _ (caller : CallSign) (start : Session) (first : List ℕ) where
       (split row.replies at.0 before later ul_ack_resp is))
   says-stopped stop.Disk unsaid events next earlier last mid cut h stops =
       says-last events earlier last mid (fault_reply mid.state ∷ []) h (said-front unsaid _ last.text stops.stops.0) (no-ack mid _ last.done (fault-acks mid.state))
+  says-stopped stop.OutOfMemory unsaid events next earlier last mid cut h stops = absurd stops.stops
   says-stopped stop.AirRead unsaid events next earlier last mid cut h stops = absurd stops.stops
   says-stopped stop.Spent unsaid events next earlier last mid cut h stops = absurd stops.stops
   says-stopped (stop.NotAStore found) unsaid events next earlier last mid cut h stops = absurd stops.stops
@@ -322,7 +316,7 @@ module _ (caller : CallSign) (start : Session) (first : List ℕ) where
   says-over (Err stop.Spent) least events unsaid replies done missed cut h = says-all events (made replies done missed) h.0 h.1
   says-over (Err stop.AirWrite) least events unsaid replies done missed cut h = says-behind stop.AirWrite unsaid least events replies done missed cut h
   says-over (Err stop.Disk) least events unsaid replies done missed cut h = says-behind stop.Disk unsaid least events replies done missed cut h
-  says-over (Err stop.OutOfMemory) least events unsaid replies done missed cut h = says-behind stop.OutOfMemory unsaid least events replies done missed cut h
+  says-over (Err stop.OutOfMemory) least events unsaid replies done missed cut h = absurd h
   says-over (Err (stop.NotAStore found)) least events unsaid replies done missed cut h = absurd h
   says-over (Err (stop.Damaged at)) least events unsaid replies done missed cut h = absurd h
 
@@ -487,28 +481,13 @@ module _ (server : Server) (events least : List NodeEvent) where
               (split s.before (s.next ∷ []) earlier later event is));
         }
 
-    -- a stop that leaves its event out
-    took-before : (why : NodeStop) → StopsBehind least server_steps server events why unsaid all cut → Took server events least all.done
-    took-before why h =
-        let s = h.stops in
-        let done : all.done ≡ s.earlier.done ++ s.last.done = ap (λ (m : Made). m.done) s.all_is in
-        record {
-          taken = s.before;
-          others = s.next ∷ s.later;
-          in_order = s.events_are;
-          whole = inr (h.between, h.in_order);
-          met = λ earlier event later is.
-              let P : List Command → Type 0 = λ cs. (meets : MeetsEvent server events cs) × (meets.earlier ≡ earlier) × (meets.event ≡ event) in
-              subst P (sym done) (met-over s.before (s.next ∷ s.later) s.goes.frames s.earlier.done s.last.done s.earlier.missed s.then_is s.events_are s.goes.serves earlier event later is);
-        }
-
     took : (ended : Result Served NodeStop) → EndsOver ended least server_steps server events unsaid all cut → Took server events least all.done
     took (Ok served) h = took-all h.1.frames all.done all.missed h.0 h.1.serves
     took (Err stop.AirRead) h = took-all h.1.frames all.done all.missed h.0 h.1.serves
     took (Err stop.Spent) h = took-all h.1.frames all.done all.missed h.0 h.1.serves
     took (Err stop.AirWrite) h = let at = h.stops.stops in took-up_to stop.AirWrite h (failed_reads at.2.parts) at.2.step.done_is
     took (Err stop.Disk) h = let at = h.stops.stops in took-up_to stop.Disk h (failed_write at.0 ++ failed_reads at.1) at.4.done_is
-    took (Err stop.OutOfMemory) h = took-before stop.OutOfMemory h
+    took (Err stop.OutOfMemory) h = absurd h
     took (Err (stop.NotAStore found)) h = absurd h
     took (Err (stop.Damaged at)) h = absurd h
 

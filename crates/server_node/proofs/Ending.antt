@@ -1,37 +1,16 @@
 -- A session or a server from the recovery of its store, which is refused or gives one, to its end by the turns of its
 -- node; what it does to its disk, and what stands there.
-use Rattle.std.proofs.lemmas.Grind.{common_steps}
-use Rattle.std.proofs.Common.{◌≡◌, inl, inr, ℕ, List, ◌++◌, refl, ◌∙◌, ap, subst, arith, [], ◌∷◌, true, false, sym, ◌≢◌, Result, Ok, Err, IsErrAnd, IsErrOf, Option}
+use Rattle.std.proofs.Common.{◌≡◌, inl, inr, ℕ, List, ◌++◌, refl, ◌∙◌, ap, subst, arith, [], ◌∷◌, false, sym, ◌≢◌, Result, Ok, Err, IsErrAnd, IsErrOf, Option}
+use Rattle.server_node.proofs.Names.{AnswersRecovery, AtDisk, Command, Course, CutsOffAmongReads, DoesAmongReads, Driven, Ends, EndsOver, Finished, Ghosts, HasAirCause, IsBeforeTurns, IsButLast, IsKnown, IsRead, IsReadOn, IsRecovered, Lent, Made, MomentsOf, NodeHasCause, NodeStop, NodeTurnsBy, PutsAmongReads, RanBy, RefusesSession, Run, Seen, Served, Steps, StoppedInLast, StopsBehind, Store, StoreState, TakesAll, TookAll, TookTurns, Turn, TurnTerms, TurnsBy, at_told, common_steps, cuts-among-all, if_told, known_on, lent, made, party_at, served_by, stands-through, store_form, store_layout, store_magic, store_on, told_weaker}
 use Rattle.disk_model.specs.AtDisk.{AtDisk, at}
-use Rattle.disk_model.specs.declared.disk.Disk.{Ghosts}
 use Rattle.file_journal.specs.Bounds.{RecoversInHalves}
 use Rattle.file_journal.specs.Position.{Position}
-use Rattle.file_journal.specs.Restoring.{AnswersRecovery}
 use Rattle.file_journal.specs.Through.{StandsThrough}
 use Rattle.file_store.specs.Calls.{Runs, TakesStep}
-use Rattle.file_store.specs.Command.{Command}
-use Rattle.file_store.specs.Store.{Store}
-use Rattle.file_store.specs.Working.{CutsOffAmongReads, DoesAmongReads, PutsAmongReads}
-use Rattle.file_store.proofs.Offered.{at_told, cuts-among-all, if_told, known_on, stands-through, told_weaker}
 use Rattle.server_node.specs.OnDisk.{NodeRuns}
-use Rattle.node.specs.declared.stop.NodeStop.{NodeStop}
-use Rattle.server_node.specs.declared.terms.Served.{Served}
-use Rattle.px_base.specs.Moments.{MomentsOf}
-use Rattle.px_base.specs.Polling.{IsButLast}
-use Rattle.px_base.specs.declared.air.Turn.{Turn}
-use Rattle.file_store.specs.Recovery.{IsRecovered}
-use Rattle.file_store.specs.State.{IsKnown, IsRead, IsReadOn, StoreState, store_form, store_layout, store_magic, store_on}
-use Rattle.node.specs.Course.{AtDisk, Course}
-use Rattle.node.specs.Lent.{Lent, Seen, lent}
-use Rattle.node.specs.Turns.{HasAirCause as NodeHasCause, Lent as Driven, RanBy, StoppedInLast, TookAll, TookTurns, TurnsBy as NodeTurnsBy, party_at}
-use Rattle.node.specs.declared.terms.TurnTerms.{TurnTerms}
-use Rattle.node.specs.declared.finished.Finished.{Finished}
 use Rattle.file_journal.proofs.Offered.{known_told, recovers_on, runs_among, runs_missed, runs_same}
-use Rattle.server_node.specs.Served.{Run, TurnsBy, Ends}
-use Rattle.server_node.specs.Steps.{EndsOver, Made, Steps, StopsBehind, TakesAll, made}
 use Rattle.server_node.proofs.StepsLemmas.{DidOnDisk}
 use Rattle.node.specs.Stops.{stop_of_fault}
-use Rattle.server_node.specs.Stops.{HasAirCause, is_for_memory, served_by, RefusesSession}
 use Rattle.std.proofs.lemmas.Result.{err_from_is_err_and}
 use Rattle.file_store.specs.IsStore.{IsStore}
 use Rattle.file_store.specs.Journal.{IsAfterRecovery}
@@ -45,6 +24,7 @@ pub record Serves {A C D : Type 0} (seen : Seen D A C) (blocks : ℕ) (given : O
   pub refuses : RefusesSession blocks (seen.disk.content old.disk) result
   pub ends : Ends seen blocks given (Ran result) old new result
   pub counts : HasAirCause seen.air.read_faults seen.air.write_faults old.air new.air result
+  pub memory : IsErrOf result stop.OutOfMemory → IsBeforeTurns old.air new.air old.clock new.clock
   pub runs : NodeRuns seen.disk (IsErrOf result stop.Disk) old.disk new.disk
 
 -- ---- a recovery that is refused, whatever it would have given
@@ -83,6 +63,7 @@ module _ {A C D T : Type 0} (seen : Seen D A C) (blocks : ℕ) (given : Option �
       within = answers.within;
     });
     counts = grind (arith, common_steps);
+    memory = λ is. record { same_air = refl; same_clock = refl };
     runs = grind (arith, common_steps, refused_runs);
   }
 
@@ -148,12 +129,13 @@ module _ {P A C D E : Type 0} (seen : Seen D A C) (Brings : List Turn → List �
 
       abbrev pub Stopped : Type 0
       Stopped =
-          (why : NodeStop) → TurnsBy (Err why) terms.polls took.all.turns → ((is_for_memory why ≡ true → took.unsaid ≡ false) → Causes (Err why))
+          (why : NodeStop) → TurnsBy (Err why) terms.polls took.all.turns → Causes (Err why)
           → ((least : List F) (made : Made) (cut : List Command) → StopsBehind least steps from events why took.unsaid made cut → EndsOver (Err why) least steps from events took.unsaid made cut)
           → StoppedInLast Brings course (party_at old) took.all why took.text took.unsaid (party_at new) → Came (Err why)
 
-      pub came-by : Taken → Stopped → Came (served_by ended)
-      came-by taken stopped = by ended refl took.ends took.counts took.ran
+      -- it never halts for want of memory
+      pub came-by : ((start now : AtDisk P D) (events : List E) (text : List ℕ) → ¬ course.halts start events stop.OutOfMemory took.unsaid text now) → Taken → Stopped → Came (served_by ended)
+      came-by full taken stopped = by ended refl took.ends took.counts took.ran
         where
           by : (e : Result Finished NodeStop) → ended ≡ e → NodeTurnsBy e terms.polls took.all.turns → NodeHasCause seen.air old.air new.air e
               → RanBy Brings course (party_at old) took.all e took.text took.unsaid (party_at new) → Came (served_by e)
@@ -161,9 +143,12 @@ module _ {P A C D E : Type 0} (seen : Seen D A C) (Brings : List Turn → List �
           by (Ok (finished.Closed n)) is ends counts ran = taken (Ok (record { turns = n })) ends counts (λ e. cc e) (λ l m h. h) ran
           by (Err stop.AirRead) is ends counts ran = taken (Err stop.AirRead) ends counts (λ e. cc e) (λ l m h. h) ran
           by (Err stop.Spent) is ends counts ran = taken (Err stop.Spent) ends counts (λ e. cc e) (λ l m h. h) ran
-          by (Err stop.AirWrite) is ends counts ran = stopped stop.AirWrite ends (λ kept. counts) (λ l m c h. h) ran
-          by (Err stop.Disk) is ends counts ran = stopped stop.Disk ends (λ kept. counts) (λ l m c h. h) ran
-          by (Err stop.OutOfMemory) is ends counts ran = stopped stop.OutOfMemory ends (λ kept. (counts.0, rw (kept refl) at took.is_unsaid)) (λ l m c h. h) ran
+          by (Err stop.AirWrite) is ends counts ran = stopped stop.AirWrite ends counts (λ l m c h. h) ran
+          by (Err stop.Disk) is ends counts ran = stopped stop.Disk ends counts (λ l m c h. h) ran
+          by (Err stop.OutOfMemory) is ends counts ran = absurd (elim ran.ends [
+            | inl none ↦ full _ _ _ _ none.3
+            | inr some ↦ full _ _ _ _ some.2
+          ])
           by (Err (stop.NotAStore found)) is ends counts ran = absurd ends
           by (Err (stop.Damaged at)) is ends counts ran = absurd ends
 
@@ -250,5 +235,6 @@ module _ {P A C D E : Type 0} (seen : Seen D A C) (Brings : List Turn → List �
         none = λ known none. (did-all known).none none;
       });
       counts = came.counts;
+      memory = λ is. absurd (grind (arith, common_steps, came.ends, is));
       runs = grind (arith, common_steps, puts);
     }

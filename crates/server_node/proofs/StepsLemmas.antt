@@ -1,23 +1,9 @@
 -- Events one after another, and a stop at one of them, whatever serves them; what is left on the disk; and whether it is
 -- known what octets the store's files have.
-use Rattle.std.proofs.lemmas.Grind.{common_steps}
-use Rattle.std.proofs.Common.{◌≡◌, inl, inr, ℕ, ◌+◌, List, [], ◌∷◌, ◌++◌, Bool, refl, ap, sym, ◌∙◌, append_assoc, arith, Option, None, Some, Result, Ok, Err, IsErrOf}
-use Rattle.std.specs.Prelude.{⊤}
-use Rattle.std.proofs.Math.Nat.{add_assoc}
-use Rattle.disk_model.specs.declared.disk.Disk.{Ghosts}
-use Rattle.disk_model.specs.declared.halt.Halt.{Halt}
+use Rattle.std.proofs.Common.{◌≡◌, inl, inr, ℕ, ◌+◌, List, [], ◌∷◌, ◌++◌, Bool, refl, ap, sym, ◌∙◌, append_assoc, arith, Option, None, Some, Result, Ok, Err, IsErr, IsErrOf}
+use Rattle.server_node.proofs.Names.{AtDisk, Command, CutsOffAmongReads, DiskFault, Does-none, DoesAmongReads, EndsOver, FailsBy, Ghosts, Halt, IsKnown, IsReady, Made, NodeStop, PutsAmongReads, RunsOn, RunsTo, Served, Service, Steps, StopsBehind, StopsOn, StopsOver, StopsTo, StoreState, TakesAll, add_assoc, among-then, at, both, common_steps, cuts-among-none, cuts-among-same, cuts-among-then, does-among, known-or-not, known_on, made, puts-among, puts-among-same, puts-among-then, puts_none, stop_at_put, store_at, ⊤}
 use Rattle.disk_model.specs.declared.halt.Halt.TheVariants as halt
-use Rattle.file_store.specs.Command.{Command}
-use Rattle.file_store.specs.State.{IsKnown, IsReady, StoreState}
-use Rattle.file_store.specs.Working.{CutsOffAmongReads, DoesAmongReads, PutsAmongReads}
-use Rattle.file_store.proofs.Offered.{Does-none, among-then, cuts-among-none, cuts-among-same, cuts-among-then, does-among, known_on, puts_none, puts-among, puts-among-same, puts-among-then}
-use Rattle.ftl0_server.proofs.Offered.{known-or-not}
-use Rattle.node.specs.Course.{AtDisk, at, stop_at_put}
-use Rattle.node.specs.declared.stop.NodeStop.{NodeStop}
 use Rattle.node.specs.declared.stop.NodeStop.TheVariants as stop
-use Rattle.server_node.specs.Steps.{EndsOver, Made, RunsOn, RunsTo, Service, Steps, StopsBehind, StopsOn, StopsOver, StopsTo, TakesAll, both, made, store_at}
-use Rattle.server_node.specs.Stops.{FailsBy}
-use Rattle.server_node.specs.declared.terms.Served.{Served}
 
 -- no events make nothing, and events and others behind them what both make
 pub record AreSteps {S E : Type 0} (steps : Steps S E) : Type 0 where
@@ -37,16 +23,15 @@ does-none g store disk ready lasts = does-among g ⊥ store store disk disk [] (
 pub puts-still : {D : Type 0} (g : Ghosts D) (disk : D) → g.lasts disk disk → PutsAmongReads g ⊥ disk disk
 puts-still g disk lasts = puts-among g ⊥ disk disk (puts_none g disk ⊥ (λ never. never) lasts)
 
--- how an event is answered, by the halt of its node
-abbrev pub answer_by : Option Halt → Result ⊤ Halt
-answer_by None = Ok tt
-answer_by (Some why) = Err why
+-- how an event's answer halts its node
+abbrev pub halt_by : Result ⊤ DiskFault → Option Halt
+halt_by (Ok done) = None
+halt_by (Err fault) = Some halt.Disk
 
--- An answer is by the disk exactly where the disk is why a node stops by it.
-pub puts-answered : {D : Type 0} (g : Ghosts D) (old now : D) (why : Option Halt) → PutsAmongReads g (IsErrOf (answer_by why) halt.Disk) old now → PutsAmongReads g (FailsBy (stop_at_put why)) old now
-puts-answered g old now None puts = puts-among-same g _ ⊥ old now (λ e. cc e) (λ never. absurd never) puts
-puts-answered g old now (Some halt.Disk) puts = puts-among-same g _ ⊤ old now (λ e. tt) (λ t. refl) puts
-puts-answered g old now (Some halt.OutOfMemory) puts = puts-among-same g _ ⊥ old now (λ e. cc e) (λ never. absurd never) puts
+-- An answer is a fault exactly where the disk is why a node stops by it.
+pub puts-answered : {D : Type 0} (g : Ghosts D) (old now : D) (result : Result ⊤ DiskFault) → PutsAmongReads g (IsErr result) old now → PutsAmongReads g (FailsBy (stop_at_put (halt_by result))) old now
+puts-answered g old now (Ok done) puts = puts-among-same g _ ⊥ old now (λ e. cc e) (λ never. absurd never) puts
+puts-answered g old now (Err fault) puts = puts-among-same g _ ⊤ old now (λ e. tt) (λ t. refl) puts
 
 -- A stop is by the disk exactly where it is that error.
 fails-there : (why : NodeStop) → FailsBy why → IsErrOf {T = Served} (Err why) stop.Disk
@@ -84,7 +69,7 @@ module _ {P S E D : Type 0} (by : Service P S E D) (laws : AreSteps by.steps) wh
   pub stops-more : (a c : AtDisk P D) (xs ys : List E) (why : NodeStop) (unsaid : Bool) (text : List ℕ) → StopsOn by a c xs why unsaid text → StopsOn by a c (xs ++ ys) why unsaid text
   stops-more a c xs ys why unsaid text h = record {
     puts = h.puts;
-    kept = h.kept;
+    memory = h.memory;
     stops = λ known start stands. let to = h.stops known start stands in grind (arith, common_steps, to);
   }
 
@@ -132,7 +117,7 @@ module _ {P S E D : Type 0} (by : Service P S E D) (laws : AreSteps by.steps) wh
       puts-behind = puts-among-then g on ⊥ (FailsBy why) a.disk b.disk c.disk (λ never. never) h.puts k.puts
 
       pub stops-then : StopsOn by a c (xs ++ ys) why unsaid (text ++ more)
-      stops-then = record { puts = puts-behind; kept = k.kept; stops = λ known start stands. (stops-behind known start stands).0 }
+      stops-then = record { puts = puts-behind; memory = k.memory; stops = λ known start stands. (stops-behind known start stands).0 }
 
     -- ---- by how the turns ended
 

@@ -27,14 +27,15 @@ use Rattle.server_node.specs.OnDisk.{LeavesStanding}
 use Rattle.server_node.specs.Steps.{Made}
 use Rattle.node.specs.Stops.{stop_of_fault}
 
--- The turns, of which there are at most so many, by how the serving ended.
+-- The turns, of which there are at most so many, by how the serving ended. Want of memory doesn't end them, nor does a
+-- recovery that is refused.
 abbrev pub TurnsBy : Result Served NodeStop → ℕ → List Turn → Type 0
 TurnsBy (Ok served) polls turns = EndsWith turns turn.End × (served.turns ≡ length turns)
 TurnsBy (Err stop.AirRead) polls turns = EndsWith turns turn.Fail
 TurnsBy (Err stop.AirWrite) polls turns = AllByRecursion IsOpen turns
 TurnsBy (Err stop.Disk) polls turns = AllByRecursion IsOpen turns
 TurnsBy (Err stop.Spent) polls turns = (length turns ≡ polls) × AllByRecursion IsOpen turns
-TurnsBy (Err stop.OutOfMemory) polls turns = AllByRecursion IsOpen turns
+TurnsBy (Err stop.OutOfMemory) polls turns = ⊥
 TurnsBy (Err (stop.NotAStore found)) polls turns = ⊥
 TurnsBy (Err (stop.Damaged at)) polls turns = ⊥
 
@@ -47,9 +48,10 @@ pub record Run : Type 0 where
   pub cut : List Command
   pub unsaid : Bool
 
--- The recovery of the store was refused, or there was no memory for the lists: nothing was heard or said, and the clock
--- wasn't asked. Where the disk didn't fail no count of its faults rose. The disk got no longer than a store of the
--- block number that it had, or of this one where it had none, or than it was; what stood behind that stays.
+-- The recovery of the store was refused, or there was no memory for the lists or the links: nothing was heard or said,
+-- and the clock wasn't asked. Where the disk didn't fail no count of its faults rose. The disk got no longer than a
+-- store of the block number that it had, or of this one where it had none, or than it was; what stood behind that
+-- stays.
 pub record IsUnrecovered {A C D : Type 0} (seen : Seen D A C) (blocks : ℕ) (old new : Lent D A C)
     (result : Result Served NodeStop) : Type 0 where
   pub fault : StoreFault
@@ -59,6 +61,11 @@ pub record IsUnrecovered {A C D : Type 0} (seen : Seen D A C) (blocks : ℕ) (ol
   pub leaves : LeavesStanding seen.disk blocks fault old.disk new.disk
   pub runs : Runs seen.disk (IsErrOf result stop.Disk) old.disk new.disk
   pub within : RecoversInHalves seen.disk store_layout blocks old.disk new.disk
+
+-- Nothing was heard or said, and the clock wasn't asked: the serving ended before its first poll.
+pub record IsBeforeTurns {A C : Type 0} (air air_now : A) (clock clock_now : C) : Type 0 where
+  pub same_air : air_now ≡ air
+  pub same_clock : clock_now ≡ clock
 
 -- It was served over the store for which the disk's content stood. Its recovery changed no octet of a formatted store,
 -- and made a formatted one of any other content. Only a write or a sync that failed ends it by the disk. What was heard

@@ -1,5 +1,5 @@
 -- Events, one after another, up to a stop: what is said to them, and which commands of the store are done.
-use Rattle.std.specs.Prelude.{◌≡◌, ℕ, ◌+◌, List, [], ◌∷◌, ◌++◌, Bool, true, false, Result, Ok, Err}
+use Rattle.std.specs.Prelude.{◌≡◌, ◌≢◌, ℕ, ◌+◌, List, [], ◌∷◌, ◌++◌, Bool, Result, Ok, Err}
 use Rattle.disk_model.specs.declared.disk.Disk.{Ghosts}
 use Rattle.file_store.specs.Command.{Command}
 use Rattle.file_store.specs.State.{IsKnown, StoreState}
@@ -7,7 +7,7 @@ use Rattle.file_store.specs.Working.{CutsOffAmongReads, DoesAmongReads, PutsAmon
 use Rattle.node.specs.Course.{AtDisk, at}
 use Rattle.node.specs.declared.stop.NodeStop.{NodeStop}
 use Rattle.node.specs.declared.stop.NodeStop.TheVariants as stop
-use Rattle.server_node.specs.Stops.{FailsBy, is_for_memory}
+use Rattle.server_node.specs.Stops.{FailsBy}
 use Rattle.server_node.specs.declared.terms.Served.{Served}
 
 -- what was made of events: the text that was said, the commands that were done, and how many reads that failed are told
@@ -59,7 +59,8 @@ abbrev pub TakesAll : {S E : Type 0} → Steps S E → S → List E → Made →
 TakesAll {S} steps start events all cut = (now : S) × steps.goes start events all now × (cut ≡ [])
 
 -- What was made of these events, by how the serving ended: all of them were taken where the end of the air was read, a
--- poll failed, or as many polls were made as may be; else those up to a stop behind the least of them.
+-- poll failed, or as many polls were made as may be; else those up to a stop behind the least of them. Want of memory
+-- stops nothing.
 abbrev pub EndsOver :
     {S E : Type 0} → Result Served NodeStop → List E → Steps S E → S → List E → Bool → Made → List Command → Type 0
 EndsOver (Ok served) least steps start events unsaid all cut = TakesAll steps start events all cut
@@ -69,8 +70,7 @@ EndsOver (Err stop.AirWrite) least steps start events unsaid all cut =
     StopsBehind least steps start events stop.AirWrite unsaid all cut
 EndsOver (Err stop.Disk) least steps start events unsaid all cut =
     StopsBehind least steps start events stop.Disk unsaid all cut
-EndsOver (Err stop.OutOfMemory) least steps start events unsaid all cut =
-    StopsBehind least steps start events stop.OutOfMemory unsaid all cut
+EndsOver (Err stop.OutOfMemory) least steps start events unsaid all cut = ⊥
 EndsOver (Err (stop.NotAStore found)) least steps start events unsaid all cut = ⊥
 EndsOver (Err (stop.Damaged place)) least steps start events unsaid all cut = ⊥
 
@@ -114,11 +114,11 @@ pub record RunsOn {P S E D : Type 0} (by : Service P S E D) (old new : AtDisk P 
   pub puts : PutsAmongReads by.disk ⊥ old.disk new.disk
   pub runs : IsKnown by.disk old.disk → (start : S) → by.stands old start → RunsTo by start old new events text
 
--- It stopped at one of them: no write and no sync came behind one that failed, and one did where that is the reason.
--- After want of memory no put fails. Where it is known what octets the files have it stopped so.
+-- It stopped at one of them, and not for want of memory: no write and no sync came behind one that failed, and one did
+-- where that is the reason. Where it is known what octets the files have it stopped so.
 pub record StopsOn {P S E D : Type 0} (by : Service P S E D) (old new : AtDisk P D) (events : List E) (why : NodeStop)
     (unsaid : Bool) (text : List ℕ) : Type 0 where
   pub puts : PutsAmongReads by.disk (FailsBy why) old.disk new.disk
-  pub kept : is_for_memory why ≡ true → unsaid ≡ false
+  pub memory : why ≢ stop.OutOfMemory
   pub stops :
       IsKnown by.disk old.disk → (start : S) → by.stands old start → StopsTo by start old new events why unsaid text

@@ -1,5 +1,5 @@
 -- How a node's session stops, and what the air counts by that.
-use Rattle.std.specs.Prelude.{◌≡◌, ◌↔◌, ℕ, ◌≤◌, List, Bool, true, false, Option, IfSome, Result, Ok, Err, IsErrOf, ⊤}
+use Rattle.std.specs.Prelude.{◌≡◌, ◌↔◌, ℕ, ◌≤◌, List, Option, IfSome, Result, Ok, Err, IsErrOf, ⊤}
 use Rattle.px_base.specs.Outside.{Rose}
 use Rattle.file_store.specs.Walk.{damaged_at, no_store}
 use Rattle.file_store.specs.State.{standing_of}
@@ -24,16 +24,6 @@ FailsBy stop.Spent = ⊥
 FailsBy stop.OutOfMemory = ⊥
 FailsBy (stop.NotAStore found) = ⊥
 FailsBy (stop.Damaged at) = ⊥
-
--- Want of memory is why it stopped.
-abbrev pub is_for_memory : NodeStop → Bool
-is_for_memory stop.AirRead = false
-is_for_memory stop.AirWrite = false
-is_for_memory stop.Disk = false
-is_for_memory stop.Spent = false
-is_for_memory stop.OutOfMemory = true
-is_for_memory (stop.NotAStore found) = false
-is_for_memory (stop.Damaged at) = false
 
 -- The air's counts of faults by how a call over it ended: where hearing or saying failed that count rose, and each
 -- other is as it was. After a fault of the disk one reply more was to be said, and that may have failed too.

@@ -1,50 +1,22 @@
 -- The course of a server as a node drives it, and what the server did over the turns of its node.
-use Rattle.std.proofs.lemmas.Grind.{common_steps}
-use Rattle.std.proofs.Common.{◌≡◌, ℕ, ◌+◌, Bool, true, false, List, [], ◌∷◌, ◌++◌, Option, None, Some, refl, ap, sym, subst, ◌∙◌, inl, inr, true≢false, append_assoc, append-nil, length, take, drop, length-append, arith}
-use Rattle.std.specs.Prelude.{◌≢◌, Result, Ok, Err, ⊤}
+use Rattle.std.proofs.Common.{◌≡◌, ℕ, ◌+◌, Bool, true, false, List, [], ◌∷◌, ◌++◌, Option, None, Some, refl, ap, sym, subst, ◌∙◌, inl, inr, append_assoc, append-nil, length, take, drop, length-append, arith, ◌≢◌, Result, Ok, Err}
+use Rattle.server_node.proofs.Names.{AtDisk, Command, CutsOffAmongReads, DiskFault, Driven, EndsOver, FailsBy, Finished, GaveAll, Ghosts, GivesNext, Halt, HasAirCause, IsButLast, IsFront, IsKnown, IsLawful, IsReady, IsRecovered, IsSaid, IsUp, NodeEvent, NodeEvents, NodeStop, OwesRest, Run, RunsOn, RunsTo, Seen, Served, ServesAt, Service, StandsBy, StopsOn, StopsTo, Store, StoreState, TookTurns, Turn, TurnTerms, TurnsBy, WholeBy, at, common_steps, cuts-among-none, empties-silent, files_at, known_on, length-take-le, lent, made, party_at, served_by, server_course, server_service, serves-append, serves-one, silent-settled, stop_at_put, store_at, store_on, take-append-drop, uncut, with_server, ⊤}
 use Rattle.kiss.specs.KissText.{kiss_text}
-use Rattle.px_base.specs.Octets.{IsFront}
-use Rattle.disk_model.specs.declared.disk.Disk.{Ghosts}
 use Rattle.ax25_frames.specs.FrameText.{FrameValue, canonical}
-use Rattle.file_store.specs.Command.{Command}
-use Rattle.file_store.specs.State.{IsKnown, IsReady, StoreState, store_on}
-use Rattle.file_store.specs.Working.{CutsOffAmongReads, DoesAmongReads}
-use Rattle.file_store.proofs.Offered.{cuts-among-none, known_on}
-use Rattle.node.specs.Course.{AtDisk, GaveAll, GivesNext, IsLawful, at, stop_at_put}
-use Rattle.node.specs.Events.{NodeEvent, NodeEvents}
-use Rattle.disk_model.specs.declared.halt.Halt.{Halt}
-use Rattle.node.specs.declared.stop.NodeStop.{NodeStop}
-use Rattle.ftl0_server.specs.Failures.{failed_reads}
+use Rattle.ftl0_server.specs.Failures.{failed_reads, failed_write}
 use Rattle.ftl0_server.specs.Connection.ConnectionState.{with_reads}
 use Rattle.ftl0_server.specs.Calls.{HandsOutNext, HearsBy, HearsEvent}
 use Rattle.ftl0_server.specs.Server.{IsSilent, Server, ServerHappened, ServerSends, server_next, settled}
 use Rattle.ftl0_server.specs.ServerState.{IsServer, SendsFor, ServerState, server_pending}
 use Rattle.ftl0_server.specs.ServerStep.{Empties, happening}
 use Rattle.ftl0_server.specs.Serving.{TakesEvent}
-use Rattle.ftl0_server.proofs.Offered.{empties-silent, serves-append, serves-one, silent-settled, uncut}
-use Rattle.server_node.specs.Sessions.Running.{IsSaid}
-use Rattle.server_node.specs.OnAir.Serving.{StopsAt, failing, server_steps, text_of}
-use Rattle.server_node.specs.OnAir.Station.{IsUp, OwesRest, ServesAt, StandsBy, WholeBy, files_at, server_course, server_service, with_server}
-use Rattle.server_node.specs.Steps.{made, EndsOver, RunsOn, RunsTo, Service, StopsOn, StopsTo, store_at}
+use Rattle.server_node.specs.OnAir.Serving.{StopsAt, server_steps, text_of}
 use Rattle.server_node.specs.declared.on_air.station.ServerStation.{ServerStation}
 use Rattle.std.proofs.lemmas.List.Concat.{flat_map-append}
-use Rattle.server_node.proofs.StepsLemmas.{AreSteps, DidOnDisk, answer_by, did-all, did-stop, puts-answered, puts-still, runs-none, runs-then, stays, stop-one, stops-more, stops-then}
-use Rattle.std.proofs.lemmas.List.{length-take-le, take-append-drop}
-use Rattle.px_base.specs.declared.air.Turn.{Turn}
-use Rattle.file_store.specs.Store.{Store}
-use Rattle.node.specs.Lent.{Seen, lent}
-use Rattle.px_base.specs.Polling.{IsButLast}
-use Rattle.node.specs.Turns.{Lent as Driven, TookTurns, party_at}
-use Rattle.node.specs.declared.finished.Finished.{Finished}
-use Rattle.node.specs.declared.terms.TurnTerms.{TurnTerms}
-use Rattle.file_store.specs.Recovery.{IsRecovered}
-use Rattle.server_node.specs.declared.terms.Served.{Served}
+use Rattle.server_node.proofs.StepsLemmas.{AreSteps, DidOnDisk, did-all, did-stop, halt_by, puts-answered, puts-still, runs-none, runs-then, stays, stop-one, stops-more, stops-then}
 use Rattle.server_node.specs.declared.terms.ServerTerms.{ServerTerms}
-use Rattle.server_node.specs.Served.{Run, TurnsBy}
-use Rattle.server_node.specs.Stops.{FailsBy, HasAirCause, is_for_memory, served_by}
 use Rattle.server_node.specs.OnAir.Served.{ServerRan, server_from}
 use Rattle.server_node.proofs.Ending.{Came, Recovers, Serves, Stopped, Taken, but_last, came-by, served}
-use Rattle.disk_model.specs.declared.halt.Halt.TheVariants as halt
 use Rattle.node.specs.declared.stop.NodeStop.TheVariants as stop
 
 -- a server goes over its events one after another
@@ -58,17 +30,21 @@ module _ {D : Type 0} (g : Ghosts D) (lasts : (disk : D) → g.lasts disk disk) 
   -- ---- one event
 
   -- It came, and its frames are to be said.
-  module _ (old : AtDisk ServerStation D) (made_so : ServerState) (disk : D) (event : NodeEvent) (silenced : Bool) where
+  module _ (old : AtDisk ServerStation D) (made_so : ServerState) (disk : D) (event : NodeEvent) where
     abbrev heard : AtDisk ServerStation D
-    heard = at (record { server = made_so; is_out_of_memory = silenced }) disk
+    heard = at (record { server = made_so }) disk
 
     module _ (server : Server) (serving : ServesAt g old server) (parts : List ℕ) where
-      abbrev Heard : Result ⊤ Halt → Type 0
+      abbrev Heard : Result ⊤ DiskFault → Type 0
       Heard result = HearsBy g (with_reads (happening server event) parts) old.it.server made_so old.disk disk result
 
       -- what it makes of the server where no write and no sync fails
       abbrev taken : ServerHappened
       taken = happening server event (failed_reads parts)
+
+      -- and where one fails at this part
+      abbrev failing : ℕ → ServerHappened
+      failing part = happening server event (failed_write part ++ failed_reads parts)
 
       module _ (self : ServerState) (same : self.store ≡ made_so.store) where
         abbrev behind : AtDisk ServerStation D
@@ -79,10 +55,6 @@ module _ {D : Type 0} (g : Ghosts D) (lasts : (disk : D) → g.lasts disk disk) 
             → CutsOffAmongReads g (FailsBy why) missed (store_at service old) (at made_so.store disk) done cut → StopsTo service server old behind (event ∷ []) why unsaid text
         stopped why unsaid text done cut missed at_event cuts =
             record { done = done; cut = cut; missed = missed; stops = stop-one service are_steps why unsaid server event (made text done missed) cut at_event; cuts = rw same cuts }
-
-        -- Not by the disk.
-        none-cut : (done : List Command) (missed : ℕ) → DoesAmongReads g ⊥ missed old.it.server.store made_so.store old.disk disk done → CutsOffAmongReads g ⊥ missed (store_at service old) (at made_so.store disk) done []
-        none-cut done missed does = cuts-among-none g ⊥ missed (store_at service old) (at made_so.store disk) done (λ never. never) (lasts disk) does
 
         module _ (by : Heard (Ok tt)) (frames : List FrameValue) (last : Server) (sent : Empties taken.after frames last) where
           takes-event : TakesEvent server event frames taken.done taken.missed (settled last)
@@ -95,49 +67,36 @@ module _ {D : Type 0} (g : Ghosts D) (lasts : (disk : D) → g.lasts disk disk) 
           -- All of it was taken, and saying its frames failed.
           event-unsaid : (text : List ℕ) → frames ≢ [] → IsFront text (text_of frames) → StopsTo service server old behind (event ∷ []) stop.AirWrite true text
           event-unsaid text some is_front =
-              stopped stop.AirWrite true text taken.done [] taken.missed (frames, settled last, takes-event, some, is_front, refl) (none-cut taken.done taken.missed by.2)
+              stopped stop.AirWrite true text taken.done [] taken.missed (frames, settled last, takes-event, some, is_front, refl)
+              (cuts-among-none g ⊥ taken.missed (store_at service old) (at made_so.store disk) taken.done (λ never. never) (lasts disk) by.2)
 
         -- The disk failed in it, and the frames of that step were said, or a front of them.
-        event-failed : (by : Heard (Err halt.Disk)) (frames : List FrameValue) (last : Server) → Empties (failing server event by.0 parts).after frames last → (text : List ℕ) (unsaid : Bool)
+        event-failed : (fault : DiskFault) (by : Heard (Err fault)) (frames : List FrameValue) (last : Server) → Empties (failing by.0).after frames last → (text : List ℕ) (unsaid : Bool)
             → IsSaid unsaid (text_of frames) text → StopsTo service server old behind (event ∷ []) stop.Disk unsaid text
-        event-failed by frames last sent text unsaid said =
-            let failed : ServerHappened = failing server event by.0 parts in
+        event-failed fault by frames last sent text unsaid said =
+            let failed : ServerHappened = failing by.0 in
             stopped stop.Disk unsaid text failed.done failed.cut failed.missed (by.0, parts, frames, settled last, grind (arith, common_steps, by.1, sent, serving.silent), said) by.3
 
-        -- There was no memory for it.
-        event-unmade : Heard (Err halt.OutOfMemory) → StopsTo service server old behind (event ∷ []) stop.OutOfMemory false []
-        event-unmade (inl does) = stopped stop.OutOfMemory false [] [] [] 0 (inl (refl, refl), refl, refl) (none-cut [] 0 does)
-        event-unmade (inr by) =
-            let failed : ServerHappened = failing server event by.0 parts in
-            stopped stop.OutOfMemory false [] failed.done [] failed.missed (inr (by.0, parts, by.1, refl, refl), refl, refl) (none-cut failed.done failed.missed by.2)
-
-      owes-rest : (why : Option Halt) → silenced ≡ is_for_memory (stop_at_put why) → silenced ≡ false → Heard (answer_by why) → OwesRest g server old (event ∷ []) why [] heard
-      owes-rest None memory fine by = record {
+      owes-rest : (result : Result ⊤ DiskFault) → Heard result → OwesRest g server old (event ∷ []) (halt_by result) [] heard
+      owes-rest (Ok done) by = record {
         made = taken.after;
         stands = by.1;
         whole = λ frames last self sent same stands settles. event-taken self same by frames last sent settles;
         front = λ frames last self text sent same some is_front. event-unsaid self same by frames last sent text some is_front;
       }
-      owes-rest (Some halt.Disk) memory fine by = record {
-        made = (failing server event by.0 parts).after;
+      owes-rest (Err fault) by = record {
+        made = (failing by.0).after;
         stands = by.2;
-        whole = λ frames last self sent same. event-failed self same by frames last sent (text_of frames) false refl;
-        front = λ frames last self text sent same some is_front. event-failed self same by frames last sent text true is_front;
+        whole = λ frames last self sent same. event-failed self same fault by frames last sent (text_of frames) false refl;
+        front = λ frames last self text sent same some is_front. event-failed self same fault by frames last sent text true is_front;
       }
-      owes-rest (Some halt.OutOfMemory) memory fine by = absurd (true≢false (sym memory ∙ fine))
 
-      owes-nothing : (why : Option Halt) → silenced ≡ is_for_memory (stop_at_put why) → silenced ≡ true → Heard (answer_by why) → StopsTo service server old heard (event ∷ []) stop.OutOfMemory false []
-      owes-nothing None memory none by = absurd (true≢false (sym none ∙ memory))
-      owes-nothing (Some halt.Disk) memory none by = absurd (true≢false (sym none ∙ memory))
-      owes-nothing (Some halt.OutOfMemory) memory none by = event-unmade made_so refl by
-
-    pub owes-event : (why : Option Halt) → silenced ≡ is_for_memory (stop_at_put why) → HearsEvent g event old.it.server made_so old.disk disk (answer_by why) → (server_course g).owes old (event ∷ []) why [] heard
-    owes-event why memory h = record {
-      puts = puts-answered g old.disk disk why h.keeps.puts;
-      memory = memory;
-      ready = λ is. record { healthy = h.keeps.healthy (λ e. cc (ap answer_by (sym is) ∙ e)); stands_on = h.keeps.stands_on };
-      rest = λ fine known server serving. let hears = h.hears known server serving.is in owes-rest server serving hears.parts why memory fine hears.by;
-      none = λ none known server serving. let hears = h.hears known server serving.is in owes-nothing server serving hears.parts why memory none hears.by;
+    pub owes-event : (result : Result ⊤ DiskFault) → HearsEvent g event old.it.server made_so old.disk disk result → (server_course g).owes old (event ∷ []) (halt_by result) [] heard
+    owes-event result h = record {
+      puts = puts-answered g old.disk disk result h.keeps.puts;
+      memory = grind (arith, common_steps);
+      ready = λ is. record { healthy = h.keeps.healthy (λ e. grind (arith, common_steps, is, e)); stands_on = h.keeps.stands_on };
+      rest = λ known server serving. let hears = h.hears known server serving.is in owes-rest server serving hears.parts result hears.by;
     }
 
   -- ---- no events
@@ -150,22 +109,21 @@ module _ {D : Type 0} (g : Ghosts D) (lasts : (disk : D) → g.lasts disk disk) 
   pub owes-none : (start : AtDisk ServerStation D) → IsUp g start → (server_course g).owes start [] None [] start
   owes-none start up = record {
     puts = puts-still g start.disk (lasts start.disk);
-    memory = up.memory;
-    ready = λ is. up.awaits.ready;
-    none = λ none. absurd (true≢false (sym none ∙ up.memory));
-    rest = λ fine known server serving. record {
+    memory = λ e. cc e;
+    ready = λ is. up.ready;
+    rest = λ known server serving. record {
       made = server;
       stands = serving.is;
       whole = λ frames last self sent same stands settles.
           let none = none-sent server frames last serving.silent sent in let self_at = (with_server start self).it in
-          rw none.0 (runs-none service are_steps server start self_at (record { is = rw none.1 at stands; silent = serving.silent }) same up.awaits.ready (lasts start.disk));
+          rw none.0 (runs-none service are_steps server start self_at (record { is = rw none.1 at stands; silent = serving.silent }) same up.ready (lasts start.disk));
       front = λ frames last self text sent same some. absurd (some (none-sent server frames last serving.silent sent).0);
     };
   }
 
   -- ---- what is said
 
-  module _ (old : AtDisk ServerStation D) (server_n : ServerState) (out out_n : List ℕ) (answer : Bool) (pending : answer ≡ server_pending old.it.server) (fine : old.it.is_out_of_memory ≡ false)
+  module _ (old : AtDisk ServerStation D) (server_n : ServerState) (out out_n : List ℕ) (answer : Bool) (pending : answer ≡ server_pending old.it.server)
       (sends : HandsOutNext SendsFor old.it.server server_n out out_n answer) (serves : (files : Store) → HandsOutNext (IsServer files) old.it.server server_n out out_n answer) (store : server_n.store ≡ old.it.server.store) where
     abbrev new : AtDisk ServerStation D
     new = with_server old server_n
@@ -220,13 +178,12 @@ module _ {D : Type 0} (g : Ghosts D) (lasts : (disk : D) → g.lasts disk disk) 
           puts = h.puts;
           memory = h.memory;
           ready = λ none. subst (λ (s : StoreState). IsReady g s old.disk) (sym store) (h.ready none);
-          rest = λ up known server serving. rest-on start events said server is why (h.rest up known server serving);
-          none = λ none. absurd (true≢false (sym none ∙ fine));
+          rest = λ known server serving. rest-on start events said server is why (h.rest known server serving);
         };
         cut_off = λ start events why said front is_front h. record {
           puts = h.puts;
-          kept = λ none. sym (h.memory ∙ none) ∙ fine;
-          stops = λ known server serving. rest-cut start events said server is why (h.rest fine known server serving) (ends-by why) front is_front;
+          memory = h.memory;
+          stops = λ known server serving. rest-cut start events said server is why (h.rest known server serving) (ends-by why) front is_front;
         };
       }
 
@@ -236,35 +193,25 @@ module _ {D : Type 0} (g : Ghosts D) (lasts : (disk : D) → g.lasts disk disk) 
         record {
           puts = h.puts;
           runs = λ known server serving.
-              let rest_is : OwesRest g server start events None said old = h.rest fine known server serving in
+              let rest_is : OwesRest g server start events None said old = h.rest known server serving in
               rest-whole start events said server is None rest_is
               (subst (λ (s : ServerState). IsServer (store_on g s.store old.disk) s rest_is.made) (sym same) rest_is.stands)
               (over-new (λ files. IsServer files server_n (settled rest_is.made)) (settles (files_at g old) rest_is.made rest_is.stands));
         },
-        record {
-          awaits = record { silent = ap server_pending same ∙ sym pending ∙ is; ready = subst (λ (s : StoreState). IsReady g s old.disk) (sym store) (h.ready refl) };
-          memory = fine;
-        },
+        record { silent = ap server_pending same ∙ sym pending ∙ is; ready = subst (λ (s : StoreState). IsReady g s old.disk) (sym store) (h.ready refl) },
       )
-      gave-all start events (Some halt.Disk) said h = record {
+      gave-all start events (Some why) said h = record {
         puts = h.puts;
-        kept = λ e. refl;
-        stops = λ known server serving. rest-whole start events said server is (Some halt.Disk) (h.rest fine known server serving);
+        memory = h.memory;
+        stops = λ known server serving. rest-whole start events said server is (Some why) (h.rest known server serving);
       }
-      gave-all start events (Some halt.OutOfMemory) said h = absurd (true≢false (sym h.memory ∙ fine))
-
-  -- After want of memory nothing is said.
-  pub gave-none : (old : AtDisk ServerStation D) → old.it.is_out_of_memory ≡ true → GaveAll (server_course g) old old
-  gave-none old silenced start events None said h = absurd (true≢false (sym silenced ∙ h.memory))
-  gave-none old silenced start events (Some halt.Disk) said h = absurd (true≢false (sym silenced ∙ h.memory))
-  gave-none old silenced start events (Some halt.OutOfMemory) said h = record { puts = h.puts; kept = λ e. refl; stops = h.none silenced }
 
   -- ---- its laws
 
   pub lawful : ((first second third : D) → g.lasts first second → g.lasts second third → g.lasts first third) → IsLawful (server_course g) (λ event. ⊤)
   lawful on = record {
     owes_none = owes-none;
-    goes_none = λ start up. stays service are_steps start up.awaits.ready (lasts start.disk);
+    goes_none = λ start up. stays service are_steps start up.ready (lasts start.disk);
     goes_on = λ a b c xs ys text more h k. runs-then service are_steps on a b c xs ys text more h k;
     halts_behind = λ a b c xs ys text more why unsaid h k. stops-then service are_steps on a b c xs ys text more h why unsaid k;
     halts_before = λ a c xs ys text why unsaid any h. stops-more service are_steps a c xs ys why unsaid text h;
@@ -279,11 +226,11 @@ abbrev pub Ran : Type 0 → ServerTerms → Result Served NodeStop → Store →
 Ran known terms result start run = ServerRan known (server_from terms start) terms.polls run result
 
 -- the station of a server that was started over the store that was recovered may take an event
-pub started : {D : Type 0} (g : Ghosts D) (terms : ServerTerms) (blocks : ℕ) (old mid : D) (station : ServerStation) (server : ServerState) → station.server ≡ server → station.is_out_of_memory ≡ false
+pub started : {D : Type 0} (g : Ghosts D) (terms : ServerTerms) (blocks : ℕ) (old mid : D) (station : ServerStation) (server : ServerState) → station.server ≡ server
     → IsRecovered g blocks old mid server.store → ((files : Store) → IsServer files server (server_from terms files)) → server_pending server ≡ false
     → IsUp g (at station mid) × ServesAt g (at station mid) (server_from terms (files_at g (at station mid)))
-started g terms blocks old mid station server same memory recovered is silent =
-    rw same (record { awaits = record { silent = silent; ready = recovered.ready }; memory = memory }, record { is = is (store_on g server.store mid); silent = refl })
+started g terms blocks old mid station server same recovered is silent =
+    rw same (record { silent = silent; ready = recovered.ready }, record { is = is (store_on g server.store mid); silent = refl })
 
 module _ {A C D : Type 0} (seen : Seen D A C) (terms : ServerTerms) (old new : Driven ServerStation D A C) (ended : Result Finished NodeStop)
     (took : TookTurns (NodeEvents terms.me) (server_course seen.disk) seen.air seen.given old new (turn_terms terms) ended) where
@@ -353,14 +300,14 @@ module _ {A C D : Type 0} (seen : Seen D A C) (terms : ServerTerms) (old new : D
         -- it went on to somewhere first
         let from : (mid : AtDisk ServerStation D) × RunsOn (server_service g) (party_at old) mid h.least h.first × StopsOn (server_service g) mid (party_at new) h.more why took.unsaid h.last =
         elim h.ends [
-          | inl none ↦ (party_at old, rw (none.1, none.2) (stays (server_service g) are_steps (party_at old) up.awaits.ready (lasts old.disk)), none.3)
+          | inl none ↦ (party_at old, rw (none.1, none.2) (stays (server_service g) are_steps (party_at old) up.ready (lasts old.disk)), none.3)
           | inr from ↦ from
         ] in
         let l : Least = record { earlier = h.earlier; but_last = h.but_last; before = h.before; behind = h.behind; split = h.split; least = h.least; brought = h.brought } in
         let did = did-stop (server_service g) are_steps on (party_at old) from.0 (party_at new) h.least h.more h.first h.last from.1 server serving took.all.events took.text h.events_are h.text_is
         why took.unsaid (over h.least) from.2 in
-        came (Err why) ends (counts from.2.kept) l did.0 did.1
+        came (Err why) ends counts l did.0 did.1
 
     pub server-serves : Serves seen terms.limits.blocks None (Ran (IsKnown g disk) terms) (lent disk old.air old.clock) (lent new.disk new.air new.clock) (served_by ended)
     server-serves = served seen (NodeEvents terms.me) (server_course g) old new (turn_terms terms) ended took on terms.limits.blocks None (Ran (IsKnown g disk) terms) disk old.clock value _ new.party.server.store (served_by ended) recovers
-        (came-by seen (NodeEvents terms.me) (server_course g) old new (turn_terms terms) ended took (λ p. refl) server_steps server took.all.events CameSo all-taken stopped-last)
+        (came-by seen (NodeEvents terms.me) (server_course g) old new (turn_terms terms) ended took (λ p. refl) server_steps server took.all.events CameSo (λ start now events text h. h.memory refl) all-taken stopped-last)

@@ -1,52 +1,20 @@
 -- The course of a session's server: that it is lawful, what the server owes by what it hears, and what it gives.
-use Rattle.std.proofs.lemmas.Grind.{common_steps}
-use Rattle.std.proofs.Common.{◌≡◌, inl, inr, ℕ, Bool, false, None, List, [], ◌++◌, refl, ap, sym, ◌∙◌, subst, append_assoc, append-nil, ◌⊎◌, ◌==◌, ◌<◌, ◌∷◌, length, true, true≢false, Option, Some, arith, take, map}
-use Rattle.px_base.specs.CallSign.{CallSign}
-use Rattle.disk_model.specs.declared.disk.Disk.{Ghosts}
-use Rattle.file_store.specs.State.{IsKnown, IsReady, StoreState, store_in, store_on}
-use Rattle.file_store.specs.Store.{Store}
-use Rattle.ftl0_session.specs.Uploads.Events.{Event, at_moment, packet_of}
+use Rattle.std.proofs.Common.{◌≡◌, inl, inr, ℕ, Bool, false, None, List, [], ◌++◌, refl, ap, sym, ◌∙◌, subst, append_assoc, append-nil, ◌⊎◌, ◌==◌, ◌<◌, ◌∷◌, length, true, true≢false, Option, Some, arith, take, map, Result, Ok, Err, IsTrue, if◌then◌else◌}
+use Rattle.server_node.proofs.Names.{Answers, AtDisk, AwaitsInput, CallSign, Command, CutsOffAmongReads, DiskFault, DoesAmongReads, Event, FailsBy, GaveAll, Ghosts, GivesNext, GoesOver, Halt, HaltsOver, Input, IsAnswered, IsFront, IsHalting, IsInput, IsKnown, IsLawful, IsOctets, IsOctets-nil, IsOctets-take, IsPartial, IsReady, IsRowOf, IsSaid, IsServer, IsStopped, IsUnderWay, IsUnsaidFirst, Item, MetEvent, NodeStop, NoneDue, Owes, OwesAll, PacketText, PacketValue, RunsOn, RunsOver, RunsTo, ServerState, Service, Session, StopsAt, StopsOn, StopsTo, Store, StoreState, Stream, TakesAtMostOne, TakesPacket, Working, add-zero, after_all, among-at, among-same, among-store, among-then, answer-all, answer-first, answer-more, answer-some, are-octets, at, at_moment, common_steps, cuts-among-none, events_behind, events_to, heard_of, is_whole, known_on, made, map-append, most_left, nil_from_length, nothing_partial, octets_at, octets_in, octets_in-at, one_if, packet_of, puts-among-reads, puts-among-then, row-first, row_over, runs-trans, server_state, session_course, session_in, session_service, session_steps, stop_at_put, stop_of, store_in, store_on, texts-append, tick, under-way-whole, under_way, waiting_behind, with_part, ⊤}
 use Rattle.ftl0_session.specs.Answering.{IsAnswering, met_with, octets_left}
 use Rattle.ftl0_session.specs.Downloads.Sending.{due_packet, is_due}
-use Rattle.ftl0_session.specs.Run.{Event as MetEvent, RunsOver, Session, heard_of}
-use Rattle.ftl0_session.specs.Table.{next_due, Row, State, download_part, failed_reads_told, in_session, tells_failed_read}
-use Rattle.node.specs.Course.{AtDisk, IsLawful, GaveAll, GivesNext, at, stop_at_put, stop_of}
-use Rattle.node.specs.Inputs.{Input, IsInput, octets_at, octets_in, tick}
-use Rattle.node.specs.declared.stop.NodeStop.{NodeStop}
-use Rattle.node.proofs.InputLemmas.{are-octets, octets_in-at}
-use Rattle.server_node.specs.Sessions.Course.{Answers, AwaitsInput, GoesOver, HaltsAt, HaltsOver, IsAnswered, IsHalting, IsLastCut, IsLastText, IsRowOf, IsStopped, IsUnderWay, IsUnsaidFirst, NoneDue, Owes, OwesAll, TakesAtMostOne, most_left, session_course, session_in, session_service}
-use Rattle.server_node.specs.Sessions.Packets.{events_behind, events_to, waiting_behind}
-use Rattle.server_node.specs.Sessions.Running.{StopsAt, session_steps}
-use Rattle.server_node.specs.Steps.{RunsOn, RunsTo, Service, StopsOn, StopsTo, made}
-use Rattle.server_node.specs.Stops.{FailsBy, is_for_memory}
-use Rattle.server_node.specs.Sessions.ServerState.{ServerState}
+use Rattle.ftl0_session.specs.Table.{fault_reply, next_due, Row, State, download_part, failed_reads_told, in_session, tells_failed_read}
 use Rattle.server_node.proofs.sessions.PacketLemmas.{both-octets, events-append, events-then, hears-none, hears-then, events-of}
-use Rattle.std.proofs.lemmas.List.{map-append, nil_from_length}
 use Rattle.server_node.proofs.Ending.{append-none}
 use Rattle.server_node.proofs.StepsLemmas.{AreSteps, does-none, puts-answered, puts-still, runs-then, stays, stop-one, stops-more, stops-then}
-use Rattle.ftl0_packets.proofs.SplitLemmas.{nothing_partial, texts-append, under-way-whole}
-use Rattle.ftl0_session.proofs.Offered.{answer-all, answer-first, answer-more, answer-some, row-first, runs-trans, with_part}
-use Rattle.std.proofs.Math.Nat.{add-zero}
 use Rattle.std.proofs.lemmas.Bool.Decides.{nat_tests}
-use Rattle.px_base.specs.Octets.{IsFront, IsOctets}
 use Rattle.ftl0_packets.specs.Items.{texts}
-use Rattle.ftl0_packets.specs.Layout.{PacketValue, Item, PacketText}
-use Rattle.file_store.specs.Command.{Command, after_all}
-use Rattle.file_store.specs.Working.{CutsOffAmongReads, DoesAmongReads, one_if}
-use Rattle.file_store.proofs.Offered.{among-at, among-same, among-store, among-then, cuts-among-none, known_on, puts-among-reads, puts-among-then}
 use Rattle.ftl0_session.specs.Downloads.Needs.{IsDueIn}
 use Rattle.ftl0_session.specs.Filling.{PutsDue}
-use Rattle.ftl0_session.specs.Taking.{row_over, TakesPacket, Working}
 use Rattle.ftl0_session.specs.Downloads.Filling.{filled as filled_with}
-use Rattle.ftl0_session.proofs.WorkingLemmas.{Sent, due-among, told-append, taken-among, taken-cut, taken-none}
-use Rattle.disk_model.specs.declared.halt.Halt.{Halt}
-use Rattle.server_node.specs.Sessions.Server.{IsServer, server_state}
+use Rattle.ftl0_session.proofs.WorkingLemmas.{Sent, due-among, told-append, taken-among, taken-cut}
 use Rattle.server_node.specs.declared.sessions.server.SessionServer.TheInside.{Inside}
-use Rattle.std.specs.Prelude.{Result, Ok, Err, IsTrue, if◌then◌else◌, ⊤}
 use Rattle.std.specs.Option.{option_map}
-use Rattle.ftl0_packets.specs.Reading.{is_whole, under_way}
-use Rattle.ftl0_packets.specs.Stream.{IsPartial, Stream}
-use Rattle.ftl0_packets.proofs.OctetLemmas.{IsOctets-take, IsOctets-nil}
 use Rattle.disk_model.specs.declared.halt.Halt.TheVariants as halt
 use Rattle.node.specs.declared.stop.NodeStop.TheVariants as stop
 
@@ -188,10 +156,9 @@ module _ {D : Type 0} (g : Ghosts D) (old new : AtDisk ServerState D) (events : 
 module _ {D : Type 0} (g : Ghosts D) (lasts : (disk : D) → g.lasts disk disk) (start : AtDisk ServerState D) (inputs : List Input) (now : AtDisk ServerState D) where
   -- ---- it halts, and its last reply was said whole, or a put of it failed
 
-  stops-so : (why : Halt) (text : List ℕ) (h : IsHalting g start inputs why text now) (unsaid : Bool) (said : List ℕ) → (is_for_memory (stop_of why) ≡ true → unsaid ≡ false)
-      → ((k : HaltsAt g start h.event why now) → StopsAt (stop_of why) unsaid (session_in g start) (met_with h.event k.parts) k.row (made said [] (failed_reads_told k.row.replies)) k.cut)
+  stops-so : (why : Halt) (text : List ℕ) → IsHalting g start inputs why text now → (unsaid : Bool) (said : List ℕ) → IsSaid unsaid (texts (fault_reply start.it.state ∷ [])) said
       → HaltsOver g start inputs (stop_of why) unsaid said now
-  stops-so why text h unsaid said kept stops = record {
+  stops-so why text h unsaid said is_said = rw h.by (record {
     are_octets = h.are_octets;
     stops = inr (record {
       some = λ none. cc (h.only, none);
@@ -199,16 +166,13 @@ module _ {D : Type 0} (g : Ghosts D) (lasts : (disk : D) → g.lasts disk disk) 
       text_is = ap (λ (t : List ℕ). t ++ said) (sym h.silent);
       stops = record {
         puts = h.puts;
-        kept = kept;
-        stops = λ known. let k = h.halts known in stop-at g start now (events_to start.it inputs) h.event h.only k.parts k.row k.is_row (stop_of why) unsaid said [] k.cut (failed_reads_told k.row.replies) (stops k) k.cuts;
+        memory = λ e. cc e;
+        stops = λ known.
+            let k = h.halts known in
+            stop-at g start now (events_to start.it inputs) h.event h.only k.parts k.row k.is_row stop.Disk unsaid said [] k.row.commands (failed_reads_told k.row.replies) (is_said, refl, refl, refl) k.cuts;
       };
     });
-  }
-
-  halts-whole : (why : Halt) (text : List ℕ) → IsHalting g start inputs why text now → HaltsOver g start inputs (stop_of why) false text now
-  halts-whole halt.Disk text h = stops-so halt.Disk text h false text (λ is. refl) (λ k. (h.text_is, refl, refl, k.last))
-  halts-whole halt.OutOfMemory text h =
-      stops-so halt.OutOfMemory text h false text (λ is. refl) (λ k. (k.last.0, ap (λ (t : List ℕ). made t [] (failed_reads_told k.row.replies)) h.text_is, k.last.1))
+  })
 
   -- ---- it goes on
 
@@ -240,9 +204,7 @@ module _ {D : Type 0} (g : Ghosts D) (lasts : (disk : D) → g.lasts disk disk) 
         (does-as (event ∷ others) replies an (failed_reads_told answer) row.commands (ap failed_reads_told answering.said_is) answering.commands_are))
 
     halts-cut : (why : Option Halt) → OwesAll g start inputs why (said ++ text) now → HaltsOver g start inputs (stop_at_put why) true (said ++ front) now
-    halts-cut (Some halt.Disk) h =
-        stops-so halt.Disk (said ++ text) h true (said ++ front) (λ is. sym is) (λ k. (front-behind said text front _ is_front h.text_is, refl, refl, k.last))
-    halts-cut (Some halt.OutOfMemory) h = absurd (some (append-none said text h.text_is).1)
+    halts-cut (Some why) h = stops-so why (said ++ text) h true (said ++ front) (front-behind said text front _ is_front h.text_is)
     halts-cut None h = record {
       are_octets = h.hears.are_octets;
       stops = by (events_to start.it inputs) refl h.one h.answers;
@@ -265,7 +227,7 @@ module _ {D : Type 0} (g : Ghosts D) (lasts : (disk : D) → g.lasts disk disk) 
               some = λ none. cc (only, none);
               replies = said ++ front;
               text_is = ap (λ (t : List ℕ). t ++ (said ++ front)) (sym one.1);
-              stops = record { puts = h.puts; kept = λ is. sym is; stops = λ known. stopped-at event others only h.replies (h.text_is ∙ ap (λ (t : List ℕ). t ++ h.replies) one.1) (answers known) };
+              stops = record { puts = h.puts; memory = λ e. cc e; stops = λ known. stopped-at event others only h.replies (h.text_is ∙ ap (λ (t : List ℕ). t ++ h.replies) one.1) (answers known) };
             })
 
   -- all was given
@@ -314,7 +276,7 @@ module _ {D : Type 0} (g : Ghosts D) (lasts : (disk : D) → g.lasts disk disk) 
 
   pub gave-last : a.replies ≡ [] → a.halted ≡ true → GaveAll (session_course g) now now
   gave-last silent halted start inputs None text h = absurd (cc (halted, h.goes_on))
-  gave-last silent halted start inputs (Some why) text h = halts-whole g lasts start inputs now why text (ended now silent start inputs (Some why) text h)
+  gave-last silent halted start inputs (Some why) text h = let last = ended now silent start inputs (Some why) text h in stops-so g lasts start inputs now why text last false text last.text_is
 
   -- the replies are given
   pub gives-replies : (a.replies ≡ [] → ⊥) → GivesNext (session_course g) now a.replies (replying [])
@@ -421,7 +383,7 @@ module _ {D : Type 0} (g : Ghosts D) (lasts : (disk : D) → g.lasts disk disk) 
     before = record { store = a.store; lists = a.lists; state = a.state }
 
     module _ (now : Working) (disk_n : D) (replies : List ℕ) where
-      abbrev Takes : Result ⊤ Halt → Type 0
+      abbrev Takes : Result ⊤ DiskFault → Type 0
       Takes result = TakesPacket g (packet_of a.caller moment item) (at before disk) (at now disk_n) replies result
 
       -- the server behind it
@@ -441,7 +403,7 @@ module _ {D : Type 0} (g : Ghosts D) (lasts : (disk : D) → g.lasts disk disk) 
             replies = replies;
             text_is = ap (λ (t : List ℕ). t ++ replies) (sym ready.silent);
             one = rw only.0 (refl, ready.silent);
-            puts = puts-answered g disk disk_n None takes.puts;
+            puts = puts-answered g disk disk_n (Ok tt) takes.puts;
             answers = λ known.
                 let gives = takes.answers known in
                 record {
@@ -453,20 +415,22 @@ module _ {D : Type 0} (g : Ghosts D) (lasts : (disk : D) → g.lasts disk disk) 
                 };
           }
 
-      -- the session stopped at it, and the disk, if it failed, in one of these commands
-      halting : (caller : CallSign) (why : Halt) (takes : Takes (Err why)) → IsLastText why a.state replies → (IsKnown g disk → (cut : List Command) × IsLastCut why (met_with event (with_part takes.fails 0 [])) (row takes.fails) cut
-          × CutsOffAmongReads g (FailsBy (stop_of why)) (failed_reads_told (row takes.fails).replies) (at a.store disk) (at now.store disk_n) [] cut) → Owes g (at a disk) inputs (Some why) [] (at (server_n caller true) disk_n)
-      halting caller why takes text cuts =
-          record { are_octets = inputs-octets; halted = refl; silent = ready.silent; event = event; only = only.0; text_is = text; puts = puts-answered g disk disk_n (Some why) takes.puts; halts = halts }
-        where
-          halts : IsKnown g disk → HaltsAt g (at a disk) event why (at (record (server_n caller true) { replies = [] }) disk_n)
-          halts known =
-              let k = cuts known in let is = row-first a.caller (session_in g (at a disk)) event takes.fails in
-              record { parts = with_part takes.fails 0 []; row = row takes.fails; is_row = is; cut = k.0; last = k.1; cuts = k.2 }
-
-      pub owes-last : (caller : CallSign) (stop : Halt) → Takes (Err stop) → Owes g (at a disk) inputs (Some stop) [] (at (server_n caller true) disk_n)
-      owes-last caller halt.Disk takes =
-          halting caller halt.Disk takes takes.stopped.3 (λ known. ((row takes.fails).commands, refl, taken-cut g on a.caller moment item before now disk disk_n replies ready.up known (lasts disk) takes))
-      owes-last caller halt.OutOfMemory takes = halting caller halt.OutOfMemory takes takes.stopped.2 (λ known.
-          let none = taken-none g on a.caller moment item before now disk disk_n replies ready.up known takes in
-          ([], (takes.answers known, refl), cuts-among-none g ⊥ (failed_reads_told (row takes.fails).replies) (at a.store disk) (at now.store disk_n) [] (λ never. never) (lasts disk_n) (rw none.0 none.1)))
+      -- the disk failed in one of its row's commands
+      pub owes-last : (caller : CallSign) (fault : DiskFault) → Takes (Err fault) → Owes g (at a disk) inputs (Some halt.Disk) [] (at (server_n caller true) disk_n)
+      owes-last caller fault takes =
+          record {
+            are_octets = inputs-octets;
+            by = refl;
+            halted = refl;
+            silent = ready.silent;
+            event = event;
+            only = only.0;
+            text_is = takes.stopped.3;
+            puts = puts-answered g disk disk_n (Err fault) takes.puts;
+            halts = λ known. record {
+              parts = with_part takes.fails 0 [];
+              row = row takes.fails;
+              is_row = row-first a.caller (session_in g (at a disk)) event takes.fails;
+              cuts = taken-cut g on a.caller moment item before now disk disk_n replies ready.up known (lasts disk) takes;
+            };
+          }

@@ -1,22 +1,7 @@
 -- The packets that what is handed over brings to a session.
-use Rattle.std.proofs.lemmas.Grind.{common_steps}
 use Rattle.std.proofs.Common.{List, ℕ, ◌++◌, [], length, subst, Bool, true, false, ◌≡◌, ◌∷◌, refl, ap, sym, ◌∙◌, append_assoc, append-nil, ap₂, arith, if◌then◌else◌, ◌==◌}
-use Rattle.std.proofs.lemmas.List.{map-append}
-use Rattle.px_base.specs.Octets.{IsOctets}
-use Rattle.px_base.specs.Polling.{octets_of_turn}
-use Rattle.px_base.specs.declared.air.Turn.{Turn}
+use Rattle.server_node.proofs.Names.{Brings, Event, Hears, Input, IsOctets, IsOctets-append, IsOctets-nil, IsWaiting, Item, ServerState, Stream, Turn, at_moment, common_steps, events_behind, events_to, inputs_of, inputs_since, left-octets, left-waits, map-append, octet, octets_at, octets_back, octets_front, octets_in, octets_in-append, octets_in-at, octets_of_turn, packets_of, read-append, read-stream, rest_of, stream_of, tick, turn_inputs, turn_tick, waiting_behind}
 use Rattle.px_base.specs.declared.air.Turn.TheVariants as turn
-use Rattle.ftl0_packets.specs.Layout.{Item}
-use Rattle.ftl0_packets.specs.Reading.{packets_of, rest_of}
-use Rattle.ftl0_packets.specs.Stream.{Stream}
-use Rattle.ftl0_packets.proofs.OctetLemmas.{IsOctets-append, IsOctets-nil}
-use Rattle.ftl0_packets.proofs.SplitLemmas.{left-octets, left-waits, octets_back, octets_front, read-append, read-stream, stream_of}
-use Rattle.ftl0_session.specs.Uploads.Events.{Brings, Event, at_moment}
-use Rattle.node.specs.Inputs.{Input, inputs_of, inputs_since, octet, octets_at, octets_in, tick, turn_inputs, turn_tick}
-use Rattle.node.proofs.InputLemmas.{octets_in-append, octets_in-at}
-use Rattle.server_node.specs.Sessions.Packets.{Hears, events_behind, events_to, waiting_behind}
-use Rattle.server_node.specs.Sessions.Server.{IsWaiting}
-use Rattle.server_node.specs.Sessions.ServerState.{ServerState}
 
 -- ---- inputs, and others behind them
 

@@ -1,41 +1,11 @@
 -- A session by the turns of its node.
-use Rattle.std.proofs.lemmas.Grind.{common_steps}
-use Rattle.std.proofs.Common.{true≢false, ◌≡◌, ap, sym, ◌∙◌, subst, ◌⊎◌, inl, inr, ℕ, max, List, [], ◌∷◌, ◌++◌, length, Option, Some, Result, Err, refl, ap₂, append_assoc, append-nil, arith, None, IsErrOf}
-use Rattle.px_base.specs.Moments.{MomentsOf}
-use Rattle.px_base.specs.Octets.{IsOctets}
-use Rattle.px_base.specs.declared.air.Turn.{Turn}
+use Rattle.std.proofs.Common.{◌≡◌, ap, sym, ◌∙◌, subst, ◌⊎◌, inl, inr, ℕ, max, List, [], ◌∷◌, ◌++◌, length, Option, Some, Result, Err, refl, ap₂, append_assoc, append-nil, arith, None, IsErrOf}
+use Rattle.server_node.proofs.Names.{AreHandedOver, AtDisk, Brings, CallSign, Driven, Event, Finished, Ghosts, GoesOver, HaltsOver, HasAirCause, Input, IsButLast, IsGreeted, IsKnown, IsOctets, IsUngreeted, MomentsFrom, MomentsOf, NodeStop, Run, Seen, Served, ServerState, Service, Session, SessionRan, Steps, StopsOn, Store, StoreState, TookTurns, Turn, TurnTerms, TurnsBy, at, brings-init, brings-more, brings-stream, common_steps, cuts-among-none, events_to, first_session, inputs_of, known_on, lent, login_text, new_server, nil_from_length, nothing_partial, octets_in, party_at, puts-among-same, served_by, session_course, session_service, session_steps, store_on, waiting_behind}
 use Rattle.px_base.proofs.Told.{Grows-trans}
-use Rattle.disk_model.specs.declared.disk.Disk.{Ghosts}
-use Rattle.file_store.specs.State.{IsKnown, StoreState, store_on}
-use Rattle.file_store.specs.Store.{Store}
-use Rattle.file_store.proofs.Offered.{cuts-among-none, known_on, puts-among-same}
-use Rattle.ftl0_session.specs.Uploads.Events.{Brings, Event}
-use Rattle.ftl0_session.specs.Run.{Session}
-use Rattle.node.specs.Course.{AtDisk, at}
-use Rattle.node.specs.Inputs.{Input, inputs_of, octets_in}
-use Rattle.node.specs.Lent.{Seen, lent}
-use Rattle.px_base.specs.Polling.{IsButLast}
-use Rattle.node.specs.Turns.{AreHandedOver, Lent as Driven, MomentsFrom, TookTurns, party_at}
-use Rattle.node.specs.declared.finished.Finished.{Finished}
-use Rattle.node.specs.declared.stop.NodeStop.{NodeStop}
-use Rattle.node.specs.declared.terms.TurnTerms.{TurnTerms}
 use Rattle.node.specs.declared.stop.NodeStop.TheVariants as stop
-use Rattle.server_node.specs.declared.terms.Served.{Served}
 use Rattle.server_node.specs.declared.terms.SessionTerms.{SessionTerms}
-use Rattle.server_node.specs.Served.{Run, TurnsBy}
-use Rattle.server_node.specs.Steps.{Service, Steps, StopsOn}
-use Rattle.px_base.specs.CallSign.{CallSign}
-use Rattle.server_node.specs.Stops.{HasAirCause, is_for_memory, served_by}
-use Rattle.server_node.specs.Sessions.Course.{GoesOver, HaltsOver, session_course, session_service}
-use Rattle.server_node.specs.Sessions.Packets.{events_to, waiting_behind}
-use Rattle.server_node.specs.Sessions.Running.{first_session, session_steps}
-use Rattle.server_node.specs.Sessions.ServerState.{ServerState, new_server}
-use Rattle.server_node.specs.Sessions.SessionRan.{IsGreeted, IsUngreeted, SessionRan, login_text}
-use Rattle.std.proofs.lemmas.List.{nil_from_length}
 use Rattle.server_node.proofs.Ending.{Came, Recovers, Serves, Stopped, Taken, append-none, but_last, came-by, run_of, served}
 use Rattle.server_node.proofs.StepsLemmas.{DidOnDisk, did-all, did-stop}
-use Rattle.ftl0_packets.proofs.SplitLemmas.{nothing_partial}
-use Rattle.ftl0_session.proofs.Offered.{brings-init, brings-more, brings-stream}
 use Rattle.server_node.proofs.sessions.PacketLemmas.{both-octets, brings-of, events-then}
 use Rattle.server_node.proofs.sessions.CourseLemmas.{are_steps}
 
@@ -163,7 +133,7 @@ module _ {A C D : Type 0} (seen : Seen D A C) (terms : SessionTerms) (first : �
                     missed = 0;
                     cuts = λ known. cuts-among-none g _ 0 (at start mid) (at new.party.store new.disk) [] fine (lasts new.disk) (unsaid.does known);
                   } in
-                  came (Err why) did ends (counts (λ memory. absurd (true≢false (sym memory ∙ ap is_for_memory unsaid.why_is)))) (subst (λ (is : List Input). IsOctets (octets_in is)) (no_more ∙ sym no_inputs) halts.are_octets)
+                  came (Err why) did ends counts (subst (λ (is : List Input). IsOctets (octets_in is)) (no_more ∙ sym no_inputs) halts.are_octets)
                   (inl (record { why = ap Err unsaid.why_is; no_turn = no_turn; front = rw (h.text_is, none_first) unsaid.front; none_done = refl; none_cut = refl; none_missed = refl }))
                   )
               | inr stopped ↦ absurd (stopped.some (ap (events_to server) no_more))
@@ -181,11 +151,14 @@ module _ {A C D : Type 0} (seen : Seen D A C) (terms : SessionTerms) (first : �
                   events (goes.replies ++ stopped.replies) here refl why took.unsaid (over (events_to server h.least)) (subst (λ (caller : CallSign). StopsOn (session_service g caller) then_is (party_at new) (events_to then_is.it h.more) why took.unsaid stopped.replies) goes.hears.caller stopped.stops) in
                   let text = h.text_is ∙ ap₂ (λ (t u : List ℕ). t ++ u) goes.text_is (stopped.text_is ∙ ap (λ (t : List ℕ). t ++ stopped.replies) goes.silent) ∙ append_assoc (login_text first) goes.replies stopped.replies in
                   let brought = brings-at h.earlier h.before h.behind h.least h.split h.one_each h.brought goes.hears.are_octets in let over = λ (k : IsKnown g disk). did.1 (known_on g disk mid recovers.answers.runs.told k) in
-                  came (Err why) did.0 ends (counts stopped.stops.kept) are
+                  came (Err why) did.0 ends counts are
                   (inr (record { replies = goes.replies ++ stopped.replies; text_is = text; earlier = h.earlier; but_last = h.but_last; least = events_to server h.least; left = waiting_behind [] h.least; brought = brought; ends_over = over }))
                   )
             ]
 
     pub session-serves : Serves seen terms.limits.blocks terms.moment (Ran (IsKnown g disk) terms) (lent disk air clock_o) (lent new.disk new.air new.clock) (served_by ended)
     session-serves = served seen AreHandedOver (session_course g) old new turn_terms ended took on terms.limits.blocks terms.moment (Ran (IsKnown g disk) terms) disk clock_o value start new.party.store (served_by ended) recovers
-        (came-by seen AreHandedOver (session_course g) old new turn_terms ended took (λ p. refl) steps from events CameSo taken stopped)
+        (came-by seen AreHandedOver (session_course g) old new turn_terms ended took (λ p. refl) steps from events CameSo (λ start now inputs text h. elim h.stops [
+          | inl first ↦ cc first.why_is
+          | inr stopped ↦ stopped.stops.memory refl
+        ]) taken stopped)

@@ -1,6 +1,6 @@
 -- How a server goes on over the events of its node: which frames it says, and which commands of the store it does, up
 -- to a stop.
-use Rattle.std.specs.Prelude.{◌≡◌, ◌≢◌, ◌⊎◌, ℕ, List, [], ◌++◌, Bool}
+use Rattle.std.specs.Prelude.{◌≡◌, ◌≢◌, ℕ, List, [], ◌++◌, Bool}
 use Rattle.px_base.specs.Octets.{IsFront}
 use Rattle.ax25_frames.specs.FrameText.{FrameValue}
 use Rattle.file_store.specs.Command.{Command}
@@ -10,8 +10,8 @@ use Rattle.node.specs.declared.stop.NodeStop.{NodeStop}
 use Rattle.node.specs.declared.stop.NodeStop.TheVariants as stop
 use Rattle.ftl0_server.specs.Failures.{failed_reads, failed_write}
 use Rattle.ftl0_server.specs.Connection.Taking.{fails}
-use Rattle.ftl0_server.specs.Server.{Server, ServerHappened}
-use Rattle.ftl0_server.specs.ServerStep.{ServerStep, happening, stepped}
+use Rattle.ftl0_server.specs.Server.{Server}
+use Rattle.ftl0_server.specs.ServerStep.{ServerStep, stepped}
 use Rattle.ftl0_server.specs.Serving.{ServesOver, TakesEvent}
 use Rattle.server_node.specs.Sessions.Running.{IsSaid}
 use Rattle.server_node.specs.Steps.{Made, Steps}
@@ -22,15 +22,10 @@ pub record ServesAs (server : Server) (events : List NodeEvent) (all : Made) (no
   pub text_is : all.text ≡ text_of frames
   pub serves : ServesOver server events frames all.done all.missed now
 
--- what this event makes of the server where a write or a sync fails at this part, and reads at those
-abbrev pub failing : Server → NodeEvent → ℕ → List ℕ → ServerHappened
-failing server event part parts = happening server event (failed_write part ++ failed_reads parts)
-
 -- A stop at this event: what was said and done at it, the commands in one of which the disk failed, and how many parts
 -- told that a read failed. Where saying failed the event's commands are done, and a front of its frames' text was said.
 -- Where the disk failed, at a write or a sync of one of its packets and nowhere else, the frames of that step were
--- said. Where there is no memory none was, and no command is done, as for a new session, or those before one of its
--- packets.
+-- said. It never stops for want of memory.
 abbrev pub StopsAt : NodeStop → Bool → Server → NodeEvent → Made → List Command → Type 0
 StopsAt stop.AirWrite unsaid server event all cut =
     (frames : List FrameValue) × (next : Server) × TakesEvent server event frames all.done all.missed next
@@ -40,11 +35,7 @@ StopsAt stop.Disk unsaid server event all cut =
     × ServerStep server event (failed_write part ++ failed_reads parts)
     (stepped all.done cut all.missed fails frames next)
     × IsSaid unsaid (text_of frames) all.text
-StopsAt stop.OutOfMemory unsaid server event all cut =
-    (((all.done ≡ []) × (all.missed ≡ 0)) ⊎ ((part : ℕ) × (parts : List ℕ)
-    × ((failing server event part parts).halt ≡ fails) × (all.done ≡ (failing server event part parts).done)
-    × (all.missed ≡ (failing server event part parts).missed)))
-    × (all.text ≡ []) × (cut ≡ [])
+StopsAt stop.OutOfMemory unsaid server event all cut = ⊥
 StopsAt stop.AirRead unsaid server event all cut = ⊥
 StopsAt stop.Spent unsaid server event all cut = ⊥
 StopsAt (stop.NotAStore found) unsaid server event all cut = ⊥

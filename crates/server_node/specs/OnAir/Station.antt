@@ -16,7 +16,7 @@ use Rattle.ftl0_server.specs.Server.{IsSilent, Server, settled}
 use Rattle.ftl0_server.specs.ServerState.{IsServer, SendsFor, ServerState, server_most}
 use Rattle.ftl0_server.specs.ServerStep.{Empties}
 use Rattle.server_node.specs.Steps.{RunsOn, RunsTo, Service, StopsOn, StopsTo}
-use Rattle.server_node.specs.Stops.{FailsBy, is_for_memory}
+use Rattle.server_node.specs.Stops.{FailsBy}
 use Rattle.server_node.specs.OnAir.Serving.{server_steps, text_of}
 use Rattle.server_node.specs.declared.on_air.station.ServerStation.{ServerStation}
 
@@ -33,10 +33,9 @@ files_at g a = store_on g a.it.server.store a.disk
 abbrev pub ServesAt : {D : Type 0} → Ghosts D → AtDisk ServerStation D → Server → Type 0
 ServesAt g a server = IsServing (files_at g a) a.it.server server
 
--- The server may take an event, and there was memory.
-pub record IsUp {D : Type 0} (g : Ghosts D) (a : AtDisk ServerStation D) : Type 0 where
-  pub awaits : AwaitsEvent g a.it.server a.disk
-  pub memory : a.it.is_out_of_memory ≡ false
+-- the server may take an event
+abbrev pub IsUp : {D : Type 0} → Ghosts D → AtDisk ServerStation D → Type 0
+IsUp g a = AwaitsEvent g a.it.server a.disk
 
 -- how a server serves events on a disk
 abbrev pub server_service : {D : Type 0} → Ghosts D → Service ServerStation Server NodeEvent D
@@ -52,7 +51,7 @@ server_service g =
 
 -- with this server in place of its own
 abbrev pub with_server : {D : Type 0} → AtDisk ServerStation D → ServerState → AtDisk ServerStation D
-with_server a self = at (record { server = self; is_out_of_memory = a.it.is_out_of_memory }) a.disk
+with_server a self = at (record { server = self }) a.disk
 
 -- what it stands for while it sends, over this store: after a fault of the disk only as far as frames go
 abbrev pub StandsBy : Store → Option Halt → ServerState → Server → Type 0
@@ -84,20 +83,15 @@ pub record OwesRest {D : Type 0} (g : Ghosts D) (server : Server) (old : AtDisk 
       → self.store ≡ now.it.server.store → frames ≢ [] → IsFront text (text_of frames)
       → StopsTo (server_service g) server old (with_server now self) events (stop_at_put why) true (said ++ text)
 
--- It took these events, and so far said this of what they give. Where it goes on its store is ready. Where it is known
--- what octets the files have it owes the rest, whichever server it stood for; after want of memory nothing more is
--- said.
+-- It took these events, and so far said this of what they give. It doesn't halt for want of memory. Where it goes on
+-- its store is ready. Where it is known what octets the files have it owes the rest, whichever server it stood for.
 pub record OwesOver {D : Type 0} (g : Ghosts D) (old : AtDisk ServerStation D) (events : List NodeEvent)
     (why : Option Halt) (said : List ℕ) (now : AtDisk ServerStation D) : Type 0 where
   pub puts : PutsAmongReads g (FailsBy (stop_at_put why)) old.disk now.disk
-  pub memory : now.it.is_out_of_memory ≡ is_for_memory (stop_at_put why)
+  pub memory : stop_at_put why ≢ stop.OutOfMemory
   pub ready : why ≡ None → IsReady g now.it.server.store now.disk
   pub rest :
-      now.it.is_out_of_memory ≡ false → IsKnown g old.disk → (server : Server) → ServesAt g old server
-      → OwesRest g server old events why said now
-  pub none :
-      now.it.is_out_of_memory ≡ true → IsKnown g old.disk → (server : Server) → ServesAt g old server
-      → StopsTo (server_service g) server old now events stop.OutOfMemory false said
+      IsKnown g old.disk → (server : Server) → ServesAt g old server → OwesRest g server old events why said now
 
 -- the course of a server, whichever one of the definitions it stands for
 abbrev pub server_course : {D : Type 0} → Ghosts D → Course ServerStation D NodeEvent

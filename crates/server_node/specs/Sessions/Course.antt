@@ -1,6 +1,6 @@
 -- The course of a session's server: which packets it takes, and what it says and does by them.
 use Rattle.std.specs.Prelude.{◌≡◌, ◌≢◌, ◌⊎◌, ℕ, ◌+◌, List, [], ◌∷◌, ◌++◌, length, Bool, true, false}
-use Rattle.std.specs.Prelude.{Option, None, Some, IsTrue}
+use Rattle.std.specs.Prelude.{Option, None, Some, ⊤}
 use Rattle.px_base.specs.CallSign.{CallSign}
 use Rattle.px_base.specs.Octets.{IsFront, IsOctets}
 use Rattle.disk_model.specs.declared.disk.Disk.{Ghosts}
@@ -14,8 +14,8 @@ use Rattle.ftl0_session.specs.Uploads.Events.{Event}
 use Rattle.ftl0_session.specs.Run.{Event as MetEvent, Session, event_row}
 use Rattle.ftl0_session.specs.Answering.{IsAnswering, met_with, octets_left}
 use Rattle.ftl0_session.specs.Downloads.Sending.{is_due}
-use Rattle.ftl0_session.specs.Table.{Row, State, download_part, failed_reads_told, fault_reply, takes_memory}
-use Rattle.node.specs.Course.{AtDisk, Course, at, stop_of}
+use Rattle.ftl0_session.specs.Table.{Row, State, download_part, failed_reads_told, fault_reply}
+use Rattle.node.specs.Course.{AtDisk, Course, at}
 use Rattle.node.specs.Inputs.{Input, octets_in}
 use Rattle.disk_model.specs.declared.halt.Halt.{Halt}
 use Rattle.disk_model.specs.declared.halt.Halt.TheVariants as halt
@@ -24,7 +24,6 @@ use Rattle.node.specs.declared.stop.NodeStop.TheVariants as stop
 use Rattle.server_node.specs.Sessions.Packets.{Hears, events_to}
 use Rattle.server_node.specs.Sessions.Running.{session_steps}
 use Rattle.server_node.specs.Steps.{RunsOn, Service, StopsOn}
-use Rattle.server_node.specs.Stops.{FailsBy}
 use Rattle.server_node.specs.Sessions.ServerState.{ServerState}
 
 -- the server, with how much it has still to say: of the replies, and of what is due behind them
@@ -111,39 +110,28 @@ pub record IsUnderWay {D : Type 0} (g : Ghosts D) (old : AtDisk ServerState D) (
   pub puts : PutsAmongReads g ⊥ old.disk new.disk
   pub answers : IsKnown g old.disk → Answers g old new (events_to old.it inputs) replies
 
--- what is said by a packet at which the session halts
-abbrev pub IsLastText : Halt → State → List ℕ → Type 0
-IsLastText halt.Disk state text = text ≡ texts (fault_reply state ∷ [])
-IsLastText halt.OutOfMemory state text = text ≡ []
-
--- the commands in one of which the disk failed; where there was no memory the packet takes some
-abbrev pub IsLastCut : Halt → MetEvent → Row → List Command → Type 0
-IsLastCut halt.Disk met row cut = cut ≡ row.commands
-IsLastCut halt.OutOfMemory met row cut = IsTrue (takes_memory met.packet row.state) × (cut ≡ [])
-
--- It halted at this event by its row of the table.
-pub record HaltsAt {D : Type 0} (g : Ghosts D) (old : AtDisk ServerState D) (event : Event) (why : Halt)
+-- It halted at this event by its row of the table: the disk failed in one of the row's commands.
+pub record HaltsAt {D : Type 0} (g : Ghosts D) (old : AtDisk ServerState D) (event : Event)
     (new : AtDisk ServerState D) : Type 0 where
   pub parts : List ℕ
   pub row : Row
   pub is_row : IsRowOf g old (met_with event parts) row
-  pub cut : List Command
-  pub last : IsLastCut why (met_with event parts) row cut
   pub cuts :
-      CutsOffAmongReads g (FailsBy (stop_of why)) (failed_reads_told row.replies) (at old.it.store old.disk)
-      (at new.it.store new.disk) [] cut
+      CutsOffAmongReads g ⊤ (failed_reads_told row.replies) (at old.it.store old.disk) (at new.it.store new.disk) []
+      row.commands
 
--- It halted at the packet that these inputs bring, of whose answer this is the text.
+-- It halted at the packet that these inputs bring, where the disk failed, of whose answer this is the text.
 pub record IsHalting {D : Type 0} (g : Ghosts D) (old : AtDisk ServerState D) (inputs : List Input) (why : Halt)
     (text : List ℕ) (new : AtDisk ServerState D) : Type 0 where
   pub are_octets : IsOctets (octets_in inputs)
+  pub by : why ≡ halt.Disk
   pub halted : new.it.halted ≡ true
   pub silent : old.it.replies ≡ []
   pub event : Event
   pub only : events_to old.it inputs ≡ event ∷ []
-  pub text_is : IsLastText why old.it.state text
-  pub puts : PutsAmongReads g (FailsBy (stop_of why)) old.disk new.disk
-  pub halts : IsKnown g old.disk → HaltsAt g old event why new
+  pub text_is : text ≡ texts (fault_reply old.it.state ∷ [])
+  pub puts : PutsAmongReads g ⊤ old.disk new.disk
+  pub halts : IsKnown g old.disk → HaltsAt g old event new
 
 -- the server at its disk, with nothing to say but what is due
 abbrev pub silenced : {D : Type 0} → AtDisk ServerState D → AtDisk ServerState D

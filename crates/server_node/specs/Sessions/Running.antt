@@ -1,5 +1,5 @@
 -- How a session goes over events: what it says, and which commands of the store it does, up to a stop.
-use Rattle.std.specs.Prelude.{◌≡◌, ◌≢◌, ℕ, List, [], ◌∷◌, ◌++◌, map, Bool, true, false, IsTrue}
+use Rattle.std.specs.Prelude.{◌≡◌, ◌≢◌, ℕ, List, [], ◌∷◌, ◌++◌, map, Bool, true, false}
 use Rattle.px_base.specs.CallSign.{CallSign}
 use Rattle.px_base.specs.Octets.{IsFront}
 use Rattle.ftl0_packets.specs.Items.{texts}
@@ -9,10 +9,10 @@ use Rattle.file_store.specs.Store.{Store}
 use Rattle.ftl0_session.specs.Uploads.Events.{Event}
 use Rattle.ftl0_session.specs.Answering.{SendsSome}
 use Rattle.ftl0_session.specs.Run.{Event as MetEvent, RunsOver, Session, event_row, heard_of}
-use Rattle.ftl0_session.specs.Table.{Row, command, failed_reads_told, fault_reply, takes_memory}
+use Rattle.ftl0_session.specs.Table.{Row, command, failed_reads_told, fault_reply}
 use Rattle.node.specs.declared.stop.NodeStop.{NodeStop}
 use Rattle.node.specs.declared.stop.NodeStop.TheVariants as stop
-use Rattle.server_node.specs.Steps.{Made, Steps, made}
+use Rattle.server_node.specs.Steps.{Made, Steps}
 
 -- The text was said whole; or, where a put failed, a front of it was.
 abbrev pub IsSaid : Bool → List ℕ → List ℕ → Type 0
@@ -24,12 +24,10 @@ abbrev pub first_session : Store → Session
 first_session store = record { store = store; lists = []; state = command }
 
 -- A stop at an event with this row of its packet: what was said and done at it, and the commands in one of which the
--- disk failed. Where there is no memory, the packet gave nothing. Where saying failed, the commands are done, and a
--- front of the replies and of what is due behind them was said, of which there is some. Where the disk failed at a
--- write or a sync, the one reply with code 3 was said, and nothing is due behind it.
+-- disk failed. Where saying failed, the commands are done, and a front of the replies and of what is due behind them
+-- was said, of which there is some. Where the disk failed at a write or a sync, the one reply with code 3 was said, and
+-- nothing is due behind it. It never stops for want of memory.
 abbrev pub StopsAt : NodeStop → Bool → Session → MetEvent → Row → Made → List Command → Type 0
-StopsAt stop.OutOfMemory unsaid now event row all cut =
-    IsTrue (takes_memory event.packet row.state) × (all ≡ made [] [] (failed_reads_told row.replies)) × (cut ≡ [])
 StopsAt stop.AirWrite unsaid now event row all cut =
     (sent : List PacketValue) × SendsSome (after_all now.store row.commands) row.state event.failures 1 sent
     × (texts (row.replies ++ sent) ≢ []) × IsFront all.text (texts (row.replies ++ sent)) × (all.done ≡ row.commands)
@@ -37,6 +35,7 @@ StopsAt stop.AirWrite unsaid now event row all cut =
 StopsAt stop.Disk unsaid now event row all cut =
     IsSaid unsaid (texts (fault_reply now.state ∷ [])) all.text × (all.done ≡ [])
     × (all.missed ≡ failed_reads_told row.replies) × (cut ≡ row.commands)
+StopsAt stop.OutOfMemory unsaid now event row all cut = ⊥
 StopsAt stop.AirRead unsaid now event row all cut = ⊥
 StopsAt stop.Spent unsaid now event row all cut = ⊥
 StopsAt (stop.NotAStore found) unsaid now event row all cut = ⊥

@@ -5,6 +5,7 @@ ghost use Rattle.ftl0_server.specs.Window.{IsGoodK};
 ghost use Rattle.node.specs.Lent.{lent, seen};
 ghost use Rattle.server_node.specs.OnAir.Served.{ServerEnds};
 ghost use Rattle.server_node.specs.OnDisk.{NodeRuns};
+ghost use Rattle.server_node.specs.Served.{IsBeforeTurns};
 ghost use Rattle.server_node.specs.Stops.{HasAirCause, RefusesSession};
 
 use crate::ended::answer_of;
@@ -24,8 +25,8 @@ use std::alloc::Global;
 /// isn't the one of the turn before, there is one tick, and its frames are put. The commands of a frame's packets are
 /// on the disk before any of its frames is put. A read of the disk that fails is told by code 3, and the server goes
 /// on. After a fault of the disk at a write or a sync the frames of that event are put, code 3 among them, and the
-/// server is over; after want of memory none of them is. However it ends, all uploads are parked, and the disk got no
-/// longer than its store may be, or than it was. Takes memory.
+/// server is over. However it ends, all uploads are parked, and the disk got no longer than its store may be, or than
+/// it was. Takes all its memory before the first poll.
 pub fn serve<D: Disk, A: Air, C: Clock>(
     alloc: Global,
     disk: &mut D,
@@ -46,6 +47,9 @@ pub fn serve<D: Disk, A: Air, C: Clock>(
     // stands on the disk at each moment.
     ensures ends { ServerEnds (seen D.Disk A.Air C.given) (lent disk.old air.old clock.old)
         (lent disk.new air.new clock.new) terms.now result }
+
+    // Memory is wanted only before the first poll: nothing was heard or said, and the clock wasn't asked.
+    ensures memory { IsErrOf result NodeStop.OutOfMemory → IsBeforeTurns air.old air.new clock.old clock.new }
 
     // Each cause rose in a count.
     ensures counts { HasAirCause A.read_faults A.write_faults air.old air.new result }

@@ -1,6 +1,6 @@
 //! The server as a station that a node drives.
 
-ghost use Rattle.std.specs.Prelude.{◌≡◌, false};
+ghost use Rattle.std.specs.Prelude.{◌≡◌};
 ghost use Rattle.server_node.specs.OnAir.Station.{server_course};
 
 use arrayvec::ArrayVec;
@@ -13,33 +13,24 @@ use node::{Halt, Station};
 /// A server as a station. It must be closed, which parks all uploads.
 pub(crate) struct ServerStation {
     server: Server,
-    /// There was no memory: nothing more is said.
-    is_out_of_memory: bool,
 }
 
 impl ServerStation {
     /// The station of a server that has nothing to send. Takes no memory.
     pub(crate) fn new(server: Server) -> ServerStation
-        ensures server { result.server ≡ server }
-        ensures memory { result.is_out_of_memory ≡ false }
+        ensures { result.server ≡ server }
     {
-        ServerStation {
-            server,
-            is_out_of_memory: false,
-        }
+        ServerStation { server }
     }
 
     /// Closes the server. Takes no memory.
     pub(crate) fn close(self) {
-        let ServerStation {
-            server,
-            is_out_of_memory: _,
-        } = self;
+        let ServerStation { server } = self;
         server.close();
     }
 }
 
-/// After a fault of the disk the frames of that event are said, code 3 among them; after want of memory none is.
+/// After a fault of the disk the frames of that event are said, code 3 among them. It takes no memory.
 impl<D: Disk> Station<D> for ServerStation {
     ghost me = { λ it. it.server.me };
 
@@ -48,25 +39,18 @@ impl<D: Disk> Station<D> for ServerStation {
     fn hear(&mut self, disk: &mut D, frame: &Frame<'_>, moment: u32) -> Result<(), Halt> {
         match self.server.hear(disk, frame, moment) {
             Ok(()) => Ok(()),
-            Err(Halt::Disk) => Err(Halt::Disk),
-            Err(Halt::OutOfMemory) => {
-                self.is_out_of_memory = true;
-                Err(Halt::OutOfMemory)
-            }
+            Err(fault) => Err(Halt::from(fault)),
         }
     }
 
     fn tick(&mut self, disk: &mut D, moment: u32) {
         match self.server.tick(disk, moment) {
             Ok(()) => {}
-            Err(_stop) => unreachable!(),
+            Err(_fault) => unreachable!(),
         }
     }
 
     fn next_out(&mut self, _disk: &mut D, frame: &mut ArrayVec<u8, 400>) -> bool {
-        if self.is_out_of_memory {
-            return false;
-        }
         if !self.server.next_out(frame) {
             return false;
         }

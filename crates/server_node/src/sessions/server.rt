@@ -45,7 +45,7 @@ impl Model for SessionServer {
 
 impl SessionServer {
     /// Before the first packet, over this store, of which no upload is out, and without lists. It has LOGIN_RESP at
-    /// this moment to say. Takes no memory yet.
+    /// this moment to say. Takes no memory.
     pub(crate) fn new(caller: Call, first: u32, store: FileStore, lists: Lists) -> SessionServer
         requires nothing_out { NothingOut store.files }
         requires no_lists { lists ≡ [] }
@@ -81,7 +81,7 @@ impl SessionServer {
 
 /// A packet is finished by what it hears, and each of its answer's texts is given by itself: first the replies to it,
 /// then each packet that is due behind them, which reads the disk. After a fault of the disk that is the reply with
-/// code 3 alone, and nothing after want of memory.
+/// code 3 alone. It takes no memory.
 impl<D: Disk> Party<D> for SessionServer {
     ghost course = { session_course D.Disk };
 
@@ -96,9 +96,9 @@ impl<D: Disk> Party<D> for SessionServer {
                 &mut self.lists,
                 &mut self.replies,
             );
-            if let Err(why) = answer {
+            if let Err(fault) = answer {
                 self.halted = true;
-                return Err(why);
+                return Err(Halt::from(fault));
             }
         }
         Ok(taken)

@@ -4,6 +4,7 @@ ghost use Rattle.std.specs.Prelude.{◌≡◌, ◌≤◌, [], ◌∷◌, IsErrOf
 ghost use Rattle.node.specs.Lent.{lent, seen};
 ghost use Rattle.px_base.specs.Moments.{MomentsOf};
 ghost use Rattle.server_node.specs.OnDisk.{NodeRuns};
+ghost use Rattle.server_node.specs.Served.{IsBeforeTurns};
 ghost use Rattle.server_node.specs.Sessions.SessionRan.{SessionEnds};
 ghost use Rattle.server_node.specs.Stops.{HasAirCause, RefusesSession};
 
@@ -25,7 +26,7 @@ use std::alloc::Global;
 /// turn's is taken before LOGIN_RESP, which has it. What a packet's row does to the store is on the disk before the
 /// replies are said. A read of the disk that fails is told by code 3, and the session goes on. After a fault of the
 /// disk at a write or a sync the reply with code 3 is said, and the session is over. However it ends, its upload is
-/// parked, and nothing was written behind what its store may take. Takes memory.
+/// parked, and nothing was written behind what its store may take. Takes all its memory before the first poll.
 pub fn session<D: Disk, A: Air, C: Clock>(
     alloc: Global,
     disk: &mut D,
@@ -46,6 +47,9 @@ pub fn session<D: Disk, A: Air, C: Clock>(
     ensures ends { SessionEnds (seen D.Disk A.Air C.given) (lent disk.old air.old clock.old)
         (lent disk.new air.new clock.new) terms.now result }
     ensures clock { IsSome terms.now.moment → clock.new ≡ clock.old }
+
+    // Memory is wanted only before the first poll: nothing was heard or said, and the clock wasn't asked.
+    ensures memory { IsErrOf result NodeStop.OutOfMemory → IsBeforeTurns air.old air.new clock.old clock.new }
 
     // Each cause rose in a count.
     ensures counts { HasAirCause A.read_faults A.write_faults air.old air.new result }

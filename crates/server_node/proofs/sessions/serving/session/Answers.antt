@@ -1,14 +1,7 @@
 -- The recovery is refused, or the session is served over what it gives.
 use Rattle.std.proofs.Common.{refl, ◌∙◌, Ok}
-use Rattle.file_journal.specs.Restoring.{AnswersRecovery}
-use Rattle.file_store.specs.State.{IsKnown, StoreState, store_form}
-use Rattle.file_store.proofs.Offered.{on_rules_always}
-use Rattle.node.specs.Course.{at}
-use Rattle.node.specs.Lent.{lent as lent_so, seen}
-use Rattle.node.specs.Turns.{AreHandedOver, lent}
-use Rattle.server_node.specs.Sessions.Course.{session_course}
-use Rattle.server_node.specs.Sessions.ServerState.{new_server}
-use Rattle.server_node.specs.Sessions.SessionRan.{login_text}
+use Rattle.server_node.proofs.Names.{AnswersRecovery, AreHandedOver, IsKnown, StoreState, at, lent as lent_so, login_text, new_server, on_rules_always, seen, session_course, store_form}
+use Rattle.node.specs.Turns.{lent}
 use Rattle.server_node.proofs.Ending.{Recovers, never-over, refused, unlisted}
 use Rattle.server_node.proofs.sessions.CourseLemmas.{owes-first}
 use Rattle.server_node.proofs.sessions.Sessions.{Ran, session-serves}
@@ -20,7 +13,7 @@ returns-in_err-store g c =
     let terms = c.args.terms.now in
     let serves = refused {T = StoreState} (seen g.D.Disk g.A.Air g.C.Clock.given) terms.limits.blocks terms.moment (Ran (IsKnown g.D.Disk c.args.disk.now) terms) (lent_so c.args.disk.now c.args.air.now c.args.clock.now) c.recover.new.disk
     c.in_err-store.field-0.0 c.from_residual.result c.from_residual.ensures.1 (record { refuses = h.refuses; untouched = h.untouched; untouched_damage = h.untouched_damage; runs = h.runs; since_start = h.since_start; since_sync = h.since_sync; within = h.within }) in
-    record { refuses = serves.refuses; ends = serves.ends; clock = λ given. refl; counts = serves.counts; runs = serves.runs }
+    record { refuses = serves.refuses; ends = serves.ends; clock = λ given. refl; counts = serves.counts; memory = serves.memory; runs = serves.runs }
 
 -- there was no memory for the lists
 pub returns-in_default : goal.returns-in_default
@@ -29,7 +22,7 @@ returns-in_default g c =
     let terms = c.args.terms.now in
     let serves = unlisted (seen g.D.Disk g.A.Air g.C.Clock.given) terms.limits.blocks terms.moment (Ran (IsKnown g.D.Disk c.args.disk.now) terms) (lent_so c.args.disk.now c.args.air.now c.args.clock.now) c.recover.new.disk c.in_ok-store.store
     (record { refuses = h.refuses; untouched = h.untouched; untouched_damage = h.untouched_damage; runs = h.runs; since_start = h.since_start; since_sync = h.since_sync; within = h.within }) in
-    record { refuses = serves.refuses; ends = serves.ends; clock = λ given. refl; counts = serves.counts; runs = serves.runs }
+    record { refuses = serves.refuses; ends = serves.ends; clock = λ given. refl; counts = serves.counts; memory = serves.memory; runs = serves.runs }
 
 -- LOGIN_RESP is what the server has to say first
 pub take_turns-ended-requires : goal.take_turns-ended-requires
@@ -52,4 +45,4 @@ returns g c =
     let serves = session-serves (seen g.D.Disk g.A.Air g.C.Clock.given) c.args.terms.now c.moment_of-first.result store mid c.args.air.now c.moment_of-first.new.clock
     (lent new.party new.disk new.air new.clock) c.take_turns-ended.result (rw c.new-server.ensures at c.take_turns-ended.ensures.turns) g.met.D.Disk.lasts_same g.met.D.Disk.lasts_on c.args.disk.now store recovers c.args.clock.now c.moment_of-first.ensures.moment in
     rw c.answer_of.ensures
-    (record { refuses = serves.refuses; ends = serves.ends; clock = λ given. c.take_turns-ended.ensures.clock given ∙ c.moment_of-first.ensures.clock given; counts = serves.counts; runs = serves.runs })
+    (record { refuses = serves.refuses; ends = serves.ends; clock = λ given. c.take_turns-ended.ensures.clock given ∙ c.moment_of-first.ensures.clock given; counts = serves.counts; memory = serves.memory; runs = serves.runs })

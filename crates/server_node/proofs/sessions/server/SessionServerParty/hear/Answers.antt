@@ -1,14 +1,9 @@
 -- A whole packet is taken, and less than one waits.
 use Rattle.std.proofs.Common.{ap, sym, ◌∙◌}
+use Rattle.server_node.proofs.Names.{IsOctets-append, IsOctets-take, ServerState, caller_of, octets_under_way, under-way-less, under_way, working}
 use Rattle.disk_model.proofs.Writes.{octets_from_fits}
-use Rattle.ftl0_packets.specs.Reading.{under_way}
 use Rattle.ftl0_packets.specs.Values.{item_of}
-use Rattle.ftl0_packets.proofs.OctetLemmas.{IsOctets-append, IsOctets-take}
-use Rattle.ftl0_session.specs.SessionState.{caller_of}
-use Rattle.ftl0_session.specs.Taking.{working}
-use Rattle.server_node.specs.Sessions.ServerState.{ServerState}
 use Rattle.server_node.proofs.sessions.CourseLemmas.{owes-last, owes-more, owes-taken}
-use Rattle.ftl0_packets.proofs.SplitLemmas.{octets_under_way, under-way-less}
 use Rattle.server_node.proofs.sessions.server.SessionServerParty.hear.Goals as goal
 
 pub invariant_of-self-in_default : goal.invariant_of-self-in_default
@@ -35,7 +30,7 @@ returns-in_default-answer-clause-takes g c =
     rw (sym c.self.view_is) (owes-taken g.D.Disk g.met.D.Disk.lasts_same g.met.D.Disk.lasts_on c.args.moment c.self.inside c.args.disk.now (rw c.self.view_is c.requires.fit) c.self.invariant
     piece (octets_from_fits piece c.type_inv.piece) c.feed-taken.result.0 c.feed-taken.new.self c.feed-taken.ensures.octets (item_of c.packet.result) c.packet.ensures.text (c.feed-taken.ensures.readable.0 c.in-Whole.is)
     now new.disk new.replies.items (caller_of new.self) c.self.inside.halted c.take-answer.ensures.caller (ap (λ (s : ServerState). s.halted) c.self.view_is ∙ c.requires.fit.goes_on)
-    (record { healthy = c.take-answer.ensures.healthy (λ e. let ok = sym c.in_default-answer.is ∙ e in cc ok); stands_on = c.take-answer.ensures.stands_on })
+    (record { healthy = c.take-answer.ensures.healthy (λ e. let no = rw c.in_default-answer.is at e in cc no); stands_on = c.take-answer.ensures.stands_on })
     (rw c.in_default-answer.is at c.take-answer.ensures.takes))
 
 pub returns-in-Err-clause-halts : goal.returns-in-Err-clause-halts
@@ -46,6 +41,6 @@ returns-in-Err-clause-halts g c =
     let now = working new.self new.store new.lists in
     let owes = owes-last g.D.Disk g.met.D.Disk.lasts_same g.met.D.Disk.lasts_on c.args.moment c.self.inside c.args.disk.now (rw c.self.view_is c.requires.fit) c.self.invariant
     piece (octets_from_fits piece c.type_inv.piece) taken c.feed-taken.new.self c.feed-taken.ensures.octets (item_of c.packet.result) c.packet.ensures.text (c.feed-taken.ensures.readable.0 c.in-Whole.is)
-    now new.disk new.replies.items (caller_of new.self) c.in-Err.why
+    now new.disk new.replies.items (caller_of new.self) c.in-Err.fault
     (rw c.in-Err.is at c.take-answer.ensures.takes) in
-    (taken, rw (sym c.self.view_is) owes)
+    (taken, rw (sym c.self.view_is, c.from.ensures) owes)

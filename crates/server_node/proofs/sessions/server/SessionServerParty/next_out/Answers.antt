@@ -1,11 +1,6 @@
 -- The replies are given first, and then what is due.
 use Rattle.std.proofs.Common.{◌≡◌, ◌<◌, refl, ap, ap₂, sym, ◌∙◌, subst}
-use Rattle.file_store.specs.State.{IsReady, StoreState}
-use Rattle.ftl0_session.specs.SessionState.{SessionState, caller_of, state_in}
-use Rattle.node.specs.Course.{GaveAll, GivesNext, at}
-use Rattle.server_node.specs.Sessions.Course.{most_left, session_course}
-use Rattle.server_node.specs.Sessions.Server.{server_state}
-use Rattle.server_node.specs.Sessions.ServerState.{ServerState}
+use Rattle.server_node.proofs.Names.{GaveAll, GivesNext, IsReady, ServerState, SessionState, StoreState, at, caller_of, most_left, server_state, session_course, state_in}
 use Rattle.server_node.proofs.sessions.CourseLemmas.{filled, gave-all, gave-last, gives-due, gives-replies, is-nil, less-left, not-empty, not-nil, server-filled}
 use Rattle.server_node.proofs.sessions.server.SessionServerParty.next_out.Goals as goal
 

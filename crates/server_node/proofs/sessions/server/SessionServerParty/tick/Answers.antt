@@ -1,5 +1,5 @@
 -- A tick brings no packet.
-use Rattle.node.specs.Course.{at}
+use Rattle.server_node.proofs.Names.{at}
 use Rattle.server_node.proofs.sessions.CourseLemmas.{owes-tick}
 use Rattle.server_node.proofs.sessions.server.SessionServerParty.tick.Goals as goal
 
