@@ -1,6 +1,8 @@
 -- What a session and a job have said and heard of uploads and downloads (FTL0 1990).
 use Rattle.std.specs.Prelude.{◌≡◌, ◌⊎◌, ℕ, List, [], ◌∷◌, length, drop, flat_map, Ok, Err}
+use Rattle.ftl0_packets.specs.ErrorCodes.{octet_of}
 use Rattle.ftl0_packets.specs.Layout.{Item, PacketValue, data_part, ul_ack_resp, ul_error_resp, ul_go_resp, upload_cmd}
+use Rattle.ftl0_packets.specs.declared.error_code.ErrorCode.TheVariants as error
 use Rattle.ftl0_server.specs.Entries as session
 use Rattle.ftl0_server.specs.Entries.{SessionEntry}
 use Rattle.ftl0_job.specs.declared.work.Work.TheVariants as work
@@ -38,7 +40,7 @@ Acknowledges side number =
 
 abbrev pub TellsComplete : ServerSide → ℕ → Type 0
 TellsComplete side number =
-    (file_length : ℕ) × Answers side (Ok (upload_cmd number file_length)) (ul_error_resp 12)
+    (file_length : ℕ) × Answers side (Ok (upload_cmd number file_length)) (ul_error_resp (octet_of error.FileComplete))
 
 abbrev pub SaysComplete : ServerSide → ℕ → Type 0
 SaysComplete side number = Acknowledges side number ⊎ TellsComplete side number

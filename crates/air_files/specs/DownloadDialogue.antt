@@ -2,8 +2,10 @@
 use Rattle.std.specs.Prelude.{◌≡◌, ◌≢◌, ◌⊎◌, ℕ, ◌+◌, ◌≤◌, List, [], ◌∷◌, ◌++◌, length, drop, map, Ok, Some, ⊤}
 use Rattle.std.specs.List.{AllByRecursion, concat}
 use Rattle.px_base.specs.Octets.{IsFront}
+use Rattle.ftl0_packets.specs.ErrorCodes.{octet_of}
 use Rattle.ftl0_packets.specs.Layout.{Item, PacketValue, data_end, data_part, dl_aborted_resp, dl_ack_cmd}
 use Rattle.ftl0_packets.specs.Layout.{dl_completed_resp, dl_error_resp, dl_nak_cmd, download_cmd}
+use Rattle.ftl0_packets.specs.declared.error_code.ErrorCode.TheVariants as error
 use Rattle.file_store.specs.Store.{Store}
 use Rattle.ftl0_session.specs.Downloads.Table.{file_of}
 use Rattle.ftl0_session.specs.Table.{State, command, sending, waiting}
@@ -68,7 +70,7 @@ AreAllSent store number offset file parts =
 -- What was sent of the file. No offset is refused as one above its length.
 abbrev pub AreSent : Store → ℕ → List ℕ → Sending → Type 0
 AreSent store number file unasked = ⊤
-AreSent store number file (refused offset code) = code ≢ 2
+AreSent store number file (refused offset code) = code ≢ octet_of error.BadContinue
 AreSent store number file (sends offset parts) = AreSentFrom store number offset file parts
 AreSent store number file (waits offset parts) = AreAllSent store number offset file parts
 AreSent store number file (ended offset parts word last) =

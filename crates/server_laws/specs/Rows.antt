@@ -4,7 +4,9 @@ use Rattle.std.specs.Prelude.{◌≡◌, ◌⊎◌, ℕ, List, [], ◌∷◌, Bo
 use Rattle.px_base.specs.CallSign.{CallSign, IsCall}
 use Rattle.ax25_frames.specs.FrameText.{FrameValue}
 use Rattle.ax25_link.specs.Window.{Window}
+use Rattle.ftl0_packets.specs.ErrorCodes.{octet_of}
 use Rattle.ftl0_packets.specs.Layout.{Item, dl_error_resp}
+use Rattle.ftl0_packets.specs.declared.error_code.ErrorCode.TheVariants as error
 use Rattle.file_entries.specs.Follows.{AreOf, IsOwnEntry}
 use Rattle.file_entries.specs.IsStore.{IsStore}
 use Rattle.file_store.specs.Command.{AreAllowed, after_all}
@@ -67,7 +69,7 @@ pub record ReceivesLaw : Type 0 where
 -- DL_ERROR_RESP 3 to a packet, and nothing else changes
 abbrev pub failed_row : List CallerList → State → Row
 failed_row lists state =
-    record { state = state; lists = lists; commands = []; replies = dl_error_resp 3 ∷ [] }
+    record { state = state; lists = lists; commands = []; replies = dl_error_resp (octet_of error.ServerFsys) ∷ [] }
 
 -- The row where a read fails is the one where none does; or it tells of it by code 3, and does nothing else; or it is
 -- this row of a file that can't be read, where there is one.
@@ -85,7 +87,7 @@ ReadsLaw =
 
 -- DL_ERROR_RESP 3 in the place of what was due, and the session waits for a command
 abbrev pub failed_due : DuePacket
-failed_due = record { packet = dl_error_resp 3; state = command }
+failed_due = record { packet = dl_error_resp (octet_of error.ServerFsys); state = command }
 
 -- What is sent next where a read fails is what is sent next where none does; or it is code 3 in its place.
 abbrev pub DueReadsLaw : Type 0
