@@ -1,5 +1,5 @@
 -- What becomes of a client that starts again from its disk: right after a cut of power, and where it is broken off.
-use Rattle.std.proofs.Common.{◌≡◌, ◌⊎◌, ℕ, zero, suc, ◌+◌, ◌-◌, ◌<◌, ◌≤◌, List, [], ◌∷◌, ◌++◌, length, take, refl, sym, ap}
+use Rattle.std.proofs.Common.{◌≡◌, ◌≢◌, ◌⊎◌, ℕ, zero, suc, ◌+◌, ◌-◌, ◌<◌, ◌≤◌, List, [], ◌∷◌, ◌++◌, length, take, refl, sym, ap}
 use Rattle.std.proofs.Common.{◌∙◌, subst, inl, inr, arith, false, Option, None, Some, Result, Ok, Err}
 use Rattle.std.proofs.Common.{length-append}
 use Rattle.std.specs.Prelude.{IfSome, OnOk, is_some, ⊤}
@@ -161,8 +161,8 @@ module _ {B : Type 0} (g : Ghosts B) (cuts : Cuts B)
     (at_seat : IsSeat self seat) (is_part : IsPart seat part whole) (steady : IsSteady g cuts disk)
     (arms : ArmsOnly g cuts (Some (call - 1)) disk armed)
     (images : EachImage g armed (λ image. StandsFor image self.client.notes.lists))
-    (touches : TouchesPart g whole touched armed lost came) (strikes : Strikes g cuts lost left came)
-    (restarts : Restarts g touched again left now) where
+    (touches : TouchesPart g whole touched armed lost came) (not_stopped : came ≢ Err halt.OutOfMemory)
+    (strikes : Strikes g cuts lost left) (restarts : Restarts g touched again left now) where
   told_armed : IsTold (g.content armed)
   told_armed = subst IsTold (sym arms.nothing_else.same_content) steady.told
 
@@ -261,7 +261,7 @@ module _ {B : Type 0} (g : Ghosts B) (cuts : Cuts B)
             subst (λ (a : Arming). HasDone (least_done a (call - 1) Lists NotesCommand notes_form) whole content) (sym fails.failed)
             (here (HasDone (least_done Failed (call - 1) Lists NotesCommand notes_form) whole) each)
       ]
-      by (Err halt.OutOfMemory) is = absurd (strikes.not_stopped is)
+      by (Err halt.OutOfMemory) is = absurd (not_stopped is)
 
   -- the disk between two events, where memory was found
   pub steady_then : cuts.is_starved now ≡ false → IsSteady g cuts now

@@ -1,9 +1,8 @@
 -- What is left of a disk where power was to be cut.
-use Rattle.std.specs.Prelude.{◌≡◌, ◌⊎◌, ℕ, ◌-◌, Some, Result, ⊤}
+use Rattle.std.specs.Prelude.{◌≡◌, ◌⊎◌, ℕ, ◌-◌, Some}
 use Rattle.std.proofs.Common.{inl, inr, sym, subst}
 use Rattle.disk_model.specs.Cuts.{ArmsOnly, Cuts}
 use Rattle.disk_model.specs.declared.disk.Disk.{Ghosts}
-use Rattle.disk_model.specs.declared.halt.Halt.{Halt}
 use Rattle.air_world.specs.Events.{ClientPart}
 use Rattle.air_rehearsal.specs.Halfway.{FailsToCut, StopsCutPart, StopsCutting, TriesToStart}
 use Rattle.air_rehearsal.specs.Stations.{Station, client_at}
@@ -21,10 +20,10 @@ module _ {B : Type 0} (g : Ghosts B) (cuts : Cuts B) (IsOne : Station → Type 0
 
   -- power was cut, and the station was to start again
   pub cutting_restarted :
-      (left disk_now : B) (came : Result ⊤ Halt) → Strikes g cuts lost left came
+      (left disk_now : B) → Strikes g cuts lost left
       → ((station : Station) → IsOne station → TriesToStart g station left disk_now)
       → StopsCutting g cuts IsOne lost disk_now
-  cutting_restarted left disk_now came strikes tries =
+  cutting_restarted left disk_now strikes tries =
       inr (inr (record { left = left; loses = strikes.loses; keeps = strikes.keeps; tries = tries }))
 
 module _ {B : Type 0} (g : Ghosts B) (cuts : Cuts B) (call : ℕ) (whole : ClientPart) (disk armed lost : B) where
@@ -42,15 +41,15 @@ module _ {B : Type 0} (g : Ghosts B) (cuts : Cuts B) (call : ℕ) (whole : Clien
 
   -- a part that was cut, and the client was to start again
   pub part_restarted :
-      (left disk_now : B) (came : Result ⊤ Halt) → ArmsOnly g cuts (Some (call - 1)) disk armed
-      → CarriesPart g whole armed lost → Strikes g cuts lost left came
+      (left disk_now : B) → ArmsOnly g cuts (Some (call - 1)) disk armed → CarriesPart g whole armed lost
+      → Strikes g cuts lost left
       → ((c : ℕ) → TriesToStart g (client_at c) left disk_now) → StopsCutPart g cuts call whole disk disk_now
-  part_restarted left disk_now came arms carries strikes tries = record {
+  part_restarted left disk_now arms carries strikes tries = record {
     armed = armed;
     arms = arms;
     lost = lost;
     carries = carries;
     stops =
-        cutting_restarted g cuts _ lost left disk_now came strikes
+        cutting_restarted g cuts _ lost left disk_now strikes
         (λ station one. subst (λ (s : Station). TriesToStart g s left disk_now) (sym one.1) (tries one.0));
   }

@@ -2,13 +2,11 @@
 use Rattle.std.specs.Prelude.{◌≡◌, ◌⊎◌, ℕ, zero, suc, ◌-◌, ◌<◌, List, [], ◌∷◌, ◌++◌, slice_get, Option, None, Some}
 use Rattle.std.specs.Prelude.{Result, Ok, Err, OnErr, refl, ⊤}
 use Rattle.std.proofs.Common.{inl, inr, sym, ap, ◌∙◌, subst, arith}
-use Rattle.std.proofs.lemmas.List.{append_assoc}
 use Rattle.std.proofs.lemmas.Option.{same_Some}
 use Rattle.disk_model.specs.AtDisk.{at}
 use Rattle.disk_model.specs.Cuts.{ArmsOnly, Cuts, LastsSo, cut_state}
 use Rattle.disk_model.specs.declared.disk.Disk.{Ghosts}
-use Rattle.disk_model.specs.declared.halt.Halt.{Halt}
-use Rattle.disk_model.specs.declared.halt.Halt.TheVariants as halt
+use Rattle.disk_model.specs.declared.disk.DiskFault.{DiskFault}
 use Rattle.file_entries.specs.Command.{Command}
 use Rattle.file_journal.specs.Calls.{Leaves, TellsAlike}
 use Rattle.file_store.specs.OnDisk.{MakesFirst}
@@ -79,7 +77,7 @@ module _ {B : Type 0} (g : Ghosts B)
       let begins = front it coming (failed_write part) (no-reads-at-write part) in
       (begins.0, begins.1 ∙ ap (λ (h : ServerHappened). begun_in h ++ begins.0) (sym is))
 
-  pub stopped : (answer : Result ⊤ Halt) → Hears g (happening it coming) old new disk disk_now answer → Stopped
+  pub stopped : (answer : Result ⊤ DiskFault) → Hears g (happening it coming) old new disk disk_now answer → Stopped
   stopped (Ok done) hears =
       let happened : ServerHappened = event (failed_reads hears.parts) in
       record {
@@ -91,7 +89,7 @@ module _ {B : Type 0} (g : Ghosts B)
             subst (λ (h : ServerHappened). Leaves g disk disk_now (λ _. MakesFirst (store_on g old.store disk) h.done)) is
             hears.by.2.since;
       }
-  stopped (Err halt.Disk) hears =
+  stopped (Err fault) hears =
       let by = hears.by in
       let happened : ServerHappened = event (failed_write by.0 ++ failed_reads hears.parts) in
       let all = cuts-among-all g on ⊤ happened.missed (at old.store disk) (at new.store disk_now) happened.done
@@ -105,32 +103,12 @@ module _ {B : Type 0} (g : Ghosts B)
             leaves-more g (store_on g old.store disk) (begun_in happened) first.0 (event []).done disk disk_now first.1
             all.since;
       }
-  stopped (Err halt.OutOfMemory) hears = elim hears.by [
-    | inl none ↦
-        record {
-          told = none.puts.told;
-          lasts = none.puts.lasts;
-          since = λ same.
-              leaves-more g (store_on g old.store disk) [] (event []).done (event []).done disk disk_now refl none.since;
-        }
-    | inr by ↦
-        let happened : ServerHappened = event (failed_write by.0 ++ failed_reads hears.parts) in
-        record {
-          told = by.2.puts.told;
-          lasts = by.2.puts.lasts;
-          since = λ same.
-              let none = missed-none _ _ _ by.2.reads same below in
-              let first = begun_first by.0 hears.parts none in
-              leaves-more g (store_on g old.store disk) happened.done (happened.cut ++ first.0) (event []).done disk disk_now
-              (first.1 ∙ append_assoc happened.done happened.cut first.0) by.2.since;
-        }
-  ]
 
 module _ {B : Type 0} (g : Ghosts B) (cuts : Cuts B)
     (lasts_so : (old new : B) → g.lasts old new → LastsSo (cut_state g cuts old) (cut_state g cuts new))
     (on : (first second third : B) → g.lasts first second → g.lasts second third → g.lasts first third)
     (misses : MissesLaw) (front : FrontOfEventLaw) (world : World) (event : Event) (old mid : Serving B) (disk : B)
-    (answer : Result ⊤ Halt) (awaits : AwaitsServer g cuts world old)
+    (answer : Result ⊤ DiskFault) (awaits : AwaitsServer g cuts world old)
     (taken : IsTaken g world event (serving old.stations old.server disk) mid answer)
     (reads : g.read_faults disk ≡ g.read_faults old.disk) (content : g.content disk ≡ g.content old.disk) where
   below_last : g.read_faults disk < 18446744073709551615

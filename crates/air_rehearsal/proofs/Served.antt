@@ -7,8 +7,8 @@ use Rattle.ax25_link.specs.Window.{Window, window_of}
 use Rattle.disk_model.specs.Cuts.{ArmsOnly, Cuts, LastsSo, cut_state}
 use Rattle.disk_model.specs.Disk.{IsTold}
 use Rattle.disk_model.specs.Moments.{LeavesOnly}
+use Rattle.disk_model.specs.declared.disk.DiskFault.{DiskFault}
 use Rattle.disk_model.specs.declared.disk.Disk.{Ghosts}
-use Rattle.disk_model.specs.declared.halt.Halt.{Halt}
 use Rattle.file_entries.specs.Command.{Command, DropsNothing}
 use Rattle.file_journal.specs.Calls.{Leaves, images_now}
 use Rattle.file_journal.specs.Walk.{state}
@@ -47,7 +47,7 @@ module _ {B : Type 0} (g : Ghosts B) (cuts : Cuts B)
     → g.images_since disk t image) (world : World) (event : Event) where
   -- ---- without a cut
 
-  module _ (old mid new : Serving B) (answer : Result ⊤ Halt) (awaits : AwaitsServer g cuts world old)
+  module _ (old mid new : Serving B) (answer : Result ⊤ DiskFault) (awaits : AwaitsServer g cuts world old)
       (none : old.stations.cut ≡ None) (taken : IsTaken g world event old mid answer)
       (whole : WentWhole g world.server taken.coming old.server mid.server old.disk mid.disk)
       (memory : cuts.is_starved mid.disk ≡ false) (frames : List FrameValue) (last : Server)
@@ -148,10 +148,10 @@ module _ {B : Type 0} (g : Ghosts B) (cuts : Cuts B)
 
   module _ (on : (first second third : B) → g.lasts first second → g.lasts second third → g.lasts first third)
       (misses : MissesLaw) (front : FrontOfEventLaw) (old mid new : Serving B) (cut : Cut) (armed : B)
-      (answer : Result ⊤ Halt) (awaits : AwaitsServer g cuts world old) (waits : old.stations.cut ≡ Some cut)
+      (answer : Result ⊤ DiskFault) (awaits : AwaitsServer g cuts world old) (waits : old.stations.cut ≡ Some cut)
       (arms : ArmsOnly g cuts (Some (cut.call - 1)) old.disk armed)
       (taken : IsTaken g world event (serving old.stations old.server armed) mid answer)
-      (gone : IsCutSo g cuts new.stations answer mid.disk new.disk new.server)
+      (gone : IsCutSo g cuts new.stations mid.disk new.disk new.server)
       (stations : new.stations ≡ record mid.stations { cut = None }) (me : new.stations.me ≡ old.stations.me)
       (k : new.stations.k ≡ old.stations.k) (ready : IsReady g old.server.store armed)
       (drops : DropsNothing (server_commands world taken.coming)) where
@@ -177,7 +177,7 @@ module _ {B : Type 0} (g : Ghosts B) (cuts : Cuts B)
         went-cut g cuts lasts_so on misses front world.server taken.coming old.server mid.server armed mid.disk
         (cut.call - 1) (arms.plain.1 awaits.steady.plain) arms.armed (omega (arith, arms.writes, writes))
         (omega (arith, arms.reads, awaits.steady.reads)) gone.strikes.memory_before told-armed stands-armed ready
-        (subst NoneGone (sym store-armed) awaits.none_gone) drops answer gone.strikes.not_stopped taken.hears
+        (subst NoneGone (sym store-armed) awaits.none_gone) drops answer taken.hears
 
     told-left : IsTold (g.content gone.left)
     told-left = gone.strikes.keeps.told.1 (went.told.1 told-armed)

@@ -4,7 +4,7 @@ use Rattle.std.proofs.Common.{sym, ap, subst, ◌∙◌}
 use Rattle.std.specs.Prelude.{is_ok, is_some, slice_get, slice_set, ⊤}
 use Rattle.disk_model.specs.Cuts.{Cuts, LastsSo, cut_state}
 use Rattle.disk_model.specs.declared.disk.Disk.{Ghosts}
-use Rattle.disk_model.specs.declared.halt.Halt.{Halt}
+use Rattle.disk_model.specs.declared.disk.DiskFault.{DiskFault}
 use Rattle.file_store.specs.State.{store_on}
 use Rattle.file_store.specs.Store.{Store}
 use Rattle.ftl0_server.specs.Calls.{Hears}
@@ -75,7 +75,7 @@ module _ {B : Type 0} (g : Ghosts B) (cuts : Cuts B)
     (counts_now : (disk : B) (t : ℕ) (image : List ℕ) → t ≤ g.moment disk → g.images disk image
     → g.images_since disk t image) (misses : MissesLaw) (world : World) where
   whole-of :
-      (event : Event) (old mid : Serving B) (answer : Result ⊤ Halt) → AwaitsServer g cuts world old
+      (event : Event) (old mid : Serving B) (answer : Result ⊤ DiskFault) → AwaitsServer g cuts world old
       → (taken : IsTaken g world event old mid answer) → is_ok answer ≡ true → cuts.is_starved mid.disk ≡ false
       → WentWhole g world.server taken.coming old.server mid.server old.disk mid.disk
   whole-of event old mid answer awaits taken ok memory =
@@ -85,7 +85,7 @@ module _ {B : Type 0} (g : Ghosts B) (cuts : Cuts B)
       (steady-on g cuts lasts_so old.disk mid.disk awaits.steady memory does.puts.lasts does.puts.told).1)
 
   pub serves-heard :
-      (laws : HearingLanesLaw) (c place : ℕ) (old mid new : Serving B) (answer : Result ⊤ Halt)
+      (laws : HearingLanesLaw) (c place : ℕ) (old mid new : Serving B) (answer : Result ⊤ DiskFault)
       → AwaitsServer g cuts world old → IsAllowed world (to_server (suc c) (suc place)) → KeepsSo old mid new
       → IsTaken g world (to_server (suc c) (suc place)) old mid answer → is_ok answer ≡ true
       → cuts.is_starved mid.disk ≡ false
@@ -110,7 +110,7 @@ module _ {B : Type 0} (g : Ghosts B) (cuts : Cuts B)
 
   -- the event of a tick, taken
   abbrev pub ticks-taken :
-      (old mid : Serving B) (answer : Result ⊤ Halt) → Hears g (happening world.server (ticks (next_moment world)))
+      (old mid : Serving B) (answer : Result ⊤ DiskFault) → Hears g (happening world.server (ticks (next_moment world)))
       old.server mid.server old.disk mid.disk answer → PlaysStations mid.stations world
       → IsTaken g world tick_server old mid answer
   ticks-taken old mid answer hears plays = record {
@@ -122,7 +122,7 @@ module _ {B : Type 0} (g : Ghosts B) (cuts : Cuts B)
   }
 
   pub serves-ticked :
-      (laws : TickingLanesLaw) (old mid new : Serving B) (answer : Result ⊤ Halt) → AwaitsServer g cuts world old
+      (laws : TickingLanesLaw) (old mid new : Serving B) (answer : Result ⊤ DiskFault) → AwaitsServer g cuts world old
       → KeepsSo old mid new
       → Hears g (happening world.server (ticks (next_moment world))) old.server mid.server old.disk mid.disk answer
       → PlaysStations mid.stations world → is_ok answer ≡ true → cuts.is_starved mid.disk ≡ false

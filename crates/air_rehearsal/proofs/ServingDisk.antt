@@ -1,5 +1,5 @@
 -- What an event of the server does to its disk, whether it is cut or not.
-use Rattle.std.proofs.Common.{◌≡◌, ◌≢◌, ℕ, ◌<◌, ◌≤◌, Bool, true, false, List, [], ◌∷◌}
+use Rattle.std.proofs.Common.{◌≡◌, ℕ, ◌<◌, ◌≤◌, Bool, true, false, List, [], ◌∷◌}
 use Rattle.std.proofs.Common.{◌++◌, length, Option, None, Some, IfSome, Result, Ok, Err, refl, sym, ap, subst, ◌∙◌, inl, inr}
 use Rattle.std.proofs.Common.{arith, length-append}
 use Rattle.std.specs.Prelude.{◌&&◌, ◌||◌, is_ok, ⊤}
@@ -10,8 +10,7 @@ use Rattle.disk_model.specs.CutLaws.{reads_stay}
 use Rattle.disk_model.specs.Cuts.{Arming, Cuts, Failed, FailsSo, LastsSo, Passes, UsesUp, cut_state}
 use Rattle.disk_model.specs.Disk.{IsTold}
 use Rattle.disk_model.specs.declared.disk.Disk.{Ghosts}
-use Rattle.disk_model.specs.declared.halt.Halt.{Halt}
-use Rattle.disk_model.specs.declared.halt.Halt.TheVariants as halt
+use Rattle.disk_model.specs.declared.disk.DiskFault.{DiskFault}
 use Rattle.file_entries.specs.Command.{Command, DropsNothing, after_all}
 use Rattle.file_journal.specs.AmongReads.{CountsSome, among_reads}
 use Rattle.file_journal.specs.Calls.{EachImage, Leaves, TellsAlike, images_now}
@@ -132,7 +131,7 @@ module _ {B : Type 0} (g : Ghosts B) where
 
   pub went-whole :
       (misses : MissesLaw) (it : Server) (coming : NodeEvent) (old new : ServerState) (disk disk_now : B)
-      (answer : Result ⊤ Halt) → is_ok answer ≡ true → g.read_faults disk < 18446744073709551615
+      (answer : Result ⊤ DiskFault) → is_ok answer ≡ true → g.read_faults disk < 18446744073709551615
       → Hears g (happening it coming) old new disk disk_now answer
       → (((missed : ℕ) (commands : List Command)
       → DoesAmongReads g ⊥ missed old.store new.store disk disk_now commands
@@ -312,10 +311,7 @@ module _ {B : Type 0} (g : Ghosts B) (cuts : Cuts B)
         }
 
     pub went-cut :
-        (answer : Result ⊤ Halt) → answer ≢ Err halt.OutOfMemory
-        → Hears g (happening it coming) old new armed lost answer
+        (answer : Result ⊤ DiskFault) → Hears g (happening it coming) old new armed lost answer
         → WentCut left_calls (store_on g old.store armed) (event []).done armed lost
-    went-cut (Ok done) not_stopped hears = went-ok hears.parts _ refl hears.by.2
-    went-cut (Err halt.Disk) not_stopped hears =
-        let by = hears.by in went-failed by.0 hears.parts _ _ refl refl by.3
-    went-cut (Err halt.OutOfMemory) not_stopped hears = absurd (not_stopped refl)
+    went-cut (Ok done) hears = went-ok hears.parts _ refl hears.by.2
+    went-cut (Err fault) hears = let by = hears.by in went-failed by.0 hears.parts _ _ refl refl by.3

@@ -6,7 +6,7 @@ use Rattle.ax25_frames.specs.FrameText.{FrameValue}
 use Rattle.ax25_link.specs.Air.{IsAt, Transmission, delivering}
 use Rattle.ax25_link.specs.Window.{window_of}
 use Rattle.disk_model.specs.declared.disk.Disk.{Ghosts}
-use Rattle.disk_model.specs.declared.halt.Halt.{Halt}
+use Rattle.disk_model.specs.declared.disk.DiskFault.{DiskFault}
 use Rattle.file_store.specs.State.{IsKnown}
 use Rattle.ftl0_server.specs.Calls.{Hears, HearsEvent}
 use Rattle.ftl0_server.specs.Server.{server_hearing}
@@ -81,7 +81,7 @@ text-of world c place self it lane P delivers texts =
     (at-itself it.a.by_client place it.t (record it.t { delivered = true }) it.is_at)
 
 module _ {B : Type 0} (g : Ghosts B) (world : World) (sound : Sound world) (c place : ℕ) (old new : Serving B)
-    (answer : Result ⊤ Halt) (plays : PlaysWorld g old.stations old.server old.disk world)
+    (answer : Result ⊤ DiskFault) (plays : PlaysWorld g old.stations old.server old.disk world)
     (moment : old.stations.moment ≡ next_moment world) (self : StoredParty)
     (self_at : slice_get old.stations.parties.items c ≡ Some self) (it : Comes world c place self) (lane : Lane)
     (is_lane : IsLane lane (delivering it.a.by_client place it.t)) where

@@ -5,7 +5,7 @@ use Rattle.ax25_frames.specs.FrameText.{FrameValue}
 use Rattle.ax25_link.specs.Window.{window_of}
 use Rattle.disk_model.specs.Cuts.{ArmsOnly, Cuts}
 use Rattle.disk_model.specs.declared.disk.Disk.{Ghosts}
-use Rattle.disk_model.specs.declared.halt.Halt.{Halt}
+use Rattle.disk_model.specs.declared.disk.DiskFault.{DiskFault}
 use Rattle.file_journal.specs.Calls.{EachImage}
 use Rattle.file_journal.specs.Walk.{state}
 use Rattle.file_store.specs.State.{StandsFor, standing_of, store_on}
@@ -54,18 +54,17 @@ module _ {B : Type 0} (g : Ghosts B) (cuts : Cuts B) where
   ArmsFor None disk disk_now = disk_now ≡ disk
   ArmsFor (Some cut) disk disk_now = ArmsOnly g cuts (Some (cut.call - 1)) disk disk_now
 
-  -- Power is lost behind an event that came to this, and the server starts again from what the disk is left with.
-  pub record IsCutSo (stations : Stations) (came : Result ⊤ Halt) (disk disk_now : B) (server : ServerState)
-      : Type 0 where
+  -- Power is lost behind an event, and the server starts again from what the disk is left with.
+  pub record IsCutSo (stations : Stations) (disk disk_now : B) (server : ServerState) : Type 0 where
     pub left : B
-    pub strikes : Strikes g cuts disk left came
+    pub strikes : Strikes g cuts disk left
     pub restarts : IsRestarted g stations left disk_now server
     pub memory : cuts.is_starved disk_now ≡ false
 
 -- The event came to the server, and this was the answer; nothing is sent yet. The stations have the delivery, if it is
 -- one, marked, as the world has it then.
 pub record IsTaken {B : Type 0} (g : Ghosts B) (world : World) (event : Event) (old new : Serving B)
-    (answer : Result ⊤ Halt) : Type 0 where
+    (answer : Result ⊤ DiskFault) : Type 0 where
   pub coming : NodeEvent
   pub delivered : World
   pub takes : ServerTakes world event coming delivered

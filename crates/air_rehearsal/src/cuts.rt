@@ -5,7 +5,7 @@ ghost use Rattle.disk_model.specs.Cuts.{ArmsOnly, cuts_by};
 ghost use Rattle.air_rehearsal.specs.Halfway.{FailsToCut};
 ghost use Rattle.air_rehearsal.specs.Strikes.{Strikes};
 
-use disk_model::{CutDisk, Halt};
+use disk_model::CutDisk;
 use px_base::OutOfMemory;
 
 /// A cut that comes in the next event of its station.
@@ -26,18 +26,14 @@ impl Cut {
         disk.arm(Some(self.call.saturating_sub(1)));
     }
 
-    /// Cuts the power, once the event has come to this. It fails where memory was wanting.
-    pub(crate) fn strike<B: CutDisk>(
-        &self,
-        disk: &mut B,
-        came: Result<(), Halt>,
-    ) -> Result<(), OutOfMemory>
+    /// Cuts the power. It fails where the disk's memory was wanting.
+    pub(crate) fn strike<B: CutDisk>(&self, disk: &mut B) -> Result<(), OutOfMemory>
         ensures strikes { OnOk result (Strikes B.Disk (cuts_by B.restarts B.arming B.plain B.is_starved)
-            disk.old disk.new came) }
+            disk.old disk.new) }
         ensures fails { OnErr result ((disk.new ≡ disk.old)
             ⊎ FailsToCut B.Disk (cuts_by B.restarts B.arming B.plain B.is_starved) disk.old disk.new) }
     {
-        if came == Err(Halt::OutOfMemory) || disk.starved() {
+        if disk.starved() {
             return Err(OutOfMemory);
         }
         disk.power_cut(self.choice);

@@ -1,6 +1,6 @@
 //! The part of a client in an event.
 
-ghost use Rattle.std.specs.Prelude.{◌≡◌, ◌↔◌, None, OnOk, IsTrue};
+ghost use Rattle.std.specs.Prelude.{◌≡◌, ◌≢◌, ◌↔◌, Err, None, OnOk, IsTrue};
 ghost use Rattle.disk_model.specs.Cuts.{cuts_by};
 ghost use Rattle.client_notes.specs.Notes.{task_count};
 ghost use Rattle.air_world.specs.Events.{ClientPart, ClientTakes};
@@ -194,7 +194,8 @@ impl Party {
         cut.arm(disk);
         images_law(self.client.notes(), disk);
         let came = self.touch_disk(disk, &part);
-        cut.strike(disk, came)?;
+        memory_found(came)?;
+        cut.strike(disk)?;
         self.restart(alloc, disk)?;
         self.note_part(&part)?;
         self.cut = None;
@@ -235,6 +236,16 @@ impl Party {
             Part::Resume { .. } | Part::List { .. } | Part::Download { .. } | Part::Tick => Ok(()),
         }
     }
+}
+
+/// What is to be cut may halt by a fault of the disk; it fails where it halted by want of memory.
+fn memory_found(came: Result<(), Halt>) -> Result<(), OutOfMemory>
+    ensures { OnOk result (came ≢ Err Halt.OutOfMemory) }
+{
+    if came == Err(Halt::OutOfMemory) {
+        return Err(OutOfMemory);
+    }
+    Ok(())
 }
 
 /// Where nothing is to be cut, an event halts by want of memory alone.

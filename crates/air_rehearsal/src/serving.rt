@@ -30,7 +30,7 @@ use crate::stations::Stations;
 use air_world::laws::sound_law;
 use arrayvec::ArrayVec;
 use ax25_frames::read_frame;
-use disk_model::{CutDisk, Disk, Halt};
+use disk_model::{CutDisk, Disk, DiskFault};
 use file_store::laws::armed_law;
 use ftl0_server::Server;
 use px_base::{Call, OutOfMemory};
@@ -73,7 +73,7 @@ impl Stations {
         let came = self.hear(&mut server, disk, c, place);
         self.cut = None;
         match cut {
-            Some(cut) => self.be_cut(server, disk, cut, came),
+            Some(cut) => self.be_cut(server, disk, cut),
             None => {
                 if came.is_ok() && !disk.starved() {
                     if let Ok(()) = self.reply(&mut server, disk, c) {
@@ -116,7 +116,7 @@ impl Stations {
         let came = server.tick(disk, self.moment);
         self.cut = None;
         match cut {
-            Some(cut) => self.be_cut(server, disk, cut, came),
+            Some(cut) => self.be_cut(server, disk, cut),
             None => {
                 if came.is_ok() && !disk.starved() {
                     if let Ok(()) = self.say(&mut server, disk) {
@@ -144,14 +144,14 @@ impl Stations {
         self.cut
     }
 
-    /// The server hears the transmission at this place of a client, which is delivered so. Takes memory.
+    /// The server hears the transmission at this place of a client, which is delivered so. Takes no memory.
     fn hear<D: Disk>(
         &mut self,
         server: &mut Server,
         disk: &mut D,
         c: usize,
         place: usize,
-    ) -> Result<(), Halt>
+    ) -> Result<(), DiskFault>
         requires { IsReadyServer D.Disk self.old server.old disk.old }
         ensures up { OnOk result (IsUp D.Disk self.new server.new disk.new) }
         ensures keeps { KeepsClients self.old self.new }
@@ -184,17 +184,16 @@ impl Stations {
         server: Server,
         disk: &mut B,
         cut: Cut,
-        came: Result<(), Halt>,
     ) -> Result<Server, OutOfMemory>
         requires window { IsGoodK self.now.k }
         ensures server { IfOk result (λ server. IsReadyServer B.Disk self.now server disk.new) }
-        ensures cuts { IfOk result (IsCutSo B.Disk (cuts_by B.restarts B.arming B.plain B.is_starved) self.now came
+        ensures cuts { IfOk result (IsCutSo B.Disk (cuts_by B.restarts B.arming B.plain B.is_starved) self.now
             disk.old disk.new) }
         ensures stops { StopsCutting B.Disk (cuts_by B.restarts B.arming B.plain B.is_starved)
             (λ station. station ≡ the_server) disk.old disk.new }
     {
         server.close();
-        cut.strike(disk, came)?;
+        cut.strike(disk)?;
         let server = self.restart_server(disk)?;
         if disk.starved() {
             server.close();

@@ -1,5 +1,5 @@
 -- What power left on the disk stands for the notes after the first of the commands, from which the client starts again.
-use Rattle.std.proofs.Common.{refl, ap, ◌∙◌, subst, List, ℕ, None}
+use Rattle.std.proofs.Common.{refl, ap, ◌∙◌, subst, inl, List, ℕ, None}
 use Rattle.disk_model.specs.Cuts.{cuts_by}
 use Rattle.file_journal.specs.Calls.{EachImage}
 use Rattle.client_notes.specs.Notes.{task_count}
@@ -29,7 +29,8 @@ returns-clause-cut g c = λ seat whole at_seat is_part steady.
     g.met.B.Disk.counts_now g.met.B.CutDisk.lasts_so c.args.self.now touched again seat c.args.part whole
     c.args.cut.call c.args.disk.now c.arm.new.disk c.touch_disk-came.new.disk c.strike.new.disk c.restart.new.disk
     c.touch_disk-came.result at_seat is_part steady c.arm.ensures images
-    (c.touch_disk-came.ensures.touches seat whole at_seat is_part) c.in_ok-strike.ensures.strikes restarts
+    (c.touch_disk-came.ensures.touches seat whole at_seat is_part) c.in_ok-memory_found.ensures
+    c.in_ok-strike.ensures.strikes restarts
     (record c.note_part.new.self { cut = None })
     (kept.me ∙ ap (λ (p : Party). p.me) restarts.keeps ∙ ap (λ (p : Party). p.me) keeps) c.requires.ready (ap (λ (p : Party). p.me) keeps)
     (ap (λ (p : Party). p.server) keeps) (ap (λ (p : Party). p.k) keeps) kept.client
@@ -39,7 +40,7 @@ pub returns-in_err-restart-clause-stops : goal.returns-in_err-restart-clause-sto
 returns-in_err-restart-clause-stops g c = λ seat whole at_seat is_part.
     let cuts = (cuts_by g.B.CutDisk.restarts g.B.CutDisk.arming g.B.CutDisk.plain g.B.CutDisk.is_starved) in
     part_restarted g.B.Disk cuts c.args.cut.call whole c.args.disk.now c.arm.new.disk c.touch_disk-came.new.disk
-    c.strike.new.disk c.restart.new.disk c.touch_disk-came.result c.arm.ensures
+    c.strike.new.disk c.restart.new.disk c.arm.ensures
     (c.touch_disk-came.ensures.touches seat whole at_seat is_part).touches.carries c.in_ok-strike.ensures.strikes
     c.restart.ensures.tries
 
@@ -47,7 +48,7 @@ pub returns-in_err-note_part-clause-stops : goal.returns-in_err-note_part-clause
 returns-in_err-note_part-clause-stops g c = λ seat whole at_seat is_part.
     let cuts = (cuts_by g.B.CutDisk.restarts g.B.CutDisk.arming g.B.CutDisk.plain g.B.CutDisk.is_starved) in
     part_restarted g.B.Disk cuts c.args.cut.call whole c.args.disk.now c.arm.new.disk c.touch_disk-came.new.disk
-    c.strike.new.disk c.restart.new.disk c.touch_disk-came.result c.arm.ensures
+    c.strike.new.disk c.restart.new.disk c.arm.ensures
     (c.touch_disk-came.ensures.touches seat whole at_seat is_part).touches.carries c.in_ok-strike.ensures.strikes
     c.restart.ensures.tries
 
@@ -55,7 +56,7 @@ pub returns-clause-stops : goal.returns-clause-stops
 returns-clause-stops g c = λ seat whole at_seat is_part.
     let cuts = (cuts_by g.B.CutDisk.restarts g.B.CutDisk.arming g.B.CutDisk.plain g.B.CutDisk.is_starved) in
     part_restarted g.B.Disk cuts c.args.cut.call whole c.args.disk.now c.arm.new.disk c.touch_disk-came.new.disk
-    c.strike.new.disk c.restart.new.disk c.touch_disk-came.result c.arm.ensures
+    c.strike.new.disk c.restart.new.disk c.arm.ensures
     (c.touch_disk-came.ensures.touches seat whole at_seat is_part).touches.carries c.in_ok-strike.ensures.strikes
     c.restart.ensures.tries
 
@@ -65,3 +66,10 @@ returns-in_err-strike-clause-stops g c = λ seat whole at_seat is_part.
     part_failed g.B.Disk cuts c.args.cut.call whole c.args.disk.now c.arm.new.disk c.touch_disk-came.new.disk
     c.strike.new.disk c.arm.ensures
     (c.touch_disk-came.ensures.touches seat whole at_seat is_part).touches.carries c.in_err-strike.ensures.fails
+
+pub returns-in_err-memory_found-clause-stops : goal.returns-in_err-memory_found-clause-stops
+returns-in_err-memory_found-clause-stops g c = λ seat whole at_seat is_part.
+    let cuts = (cuts_by g.B.CutDisk.restarts g.B.CutDisk.arming g.B.CutDisk.plain g.B.CutDisk.is_starved) in
+    part_failed g.B.Disk cuts c.args.cut.call whole c.args.disk.now c.arm.new.disk c.touch_disk-came.new.disk
+    c.touch_disk-came.new.disk c.arm.ensures
+    (c.touch_disk-came.ensures.touches seat whole at_seat is_part).touches.carries (inl refl)
