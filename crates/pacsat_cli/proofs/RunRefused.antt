@@ -7,6 +7,8 @@ use Rattle.px_base.specs.declared.out.Out.{Ghosts as OutGhosts}
 use Rattle.px_base.specs.declared.shelf.Shelf.{Ghosts as ShelfGhosts}
 use Rattle.disk_model.specs.declared.disk.Disk.{Ghosts}
 use Rattle.node.specs.Lent.{Lent, Seen}
+use Rattle.command_words.specs.declared.disk.DiskWord.{DiskWord}
+use Rattle.command_words.specs.declared.disk.DiskWord.TheVariants.{Named}
 use Rattle.command_words.specs.declared.request.SessionRequest.{SessionRequest}
 use Rattle.command_words.specs.declared.serve.ServeRequest.{ServeRequest}
 use Rattle.px_base.proofs.Told.{Gains-none}
@@ -30,8 +32,9 @@ use Rattle.pacsat_cli.specs.Sessions.{HasDiskCause, HasStoreCause, IsDoneBy, IsS
 use Rattle.pacsat_cli.specs.Status.{line_of}
 use Rattle.pacsat_cli.specs.Stops.{status_of_refusal}
 use Rattle.pacsat_cli.specs.Tasks.{RunsBody, RunsFile, RunsMake, WhereHeld}
-use Rattle.pacsat_cli.proofs.NodeEnds.{Goes, is_early_status, node-complete}
+use Rattle.pacsat_cli.proofs.NodeEnds.{Goes, is_early_status, node-complete, node-spent}
 use Rattle.pacsat_cli.proofs.OneTask.{usage-file, usage-make}
+use Rattle.pacsat_cli.proofs.RunSession.{some_polls}
 
 -- why words were refused
 abbrev pub MeansOf : List (List ℕ) → Refusal → Type 0
@@ -99,20 +102,22 @@ module _ (words : List (List ℕ)) (only : OnlyOne words) where
       refused-serve g given disk clock = λ asked is. inl ((serve-memory why h asked is, refl, refl), refl)
 
       -- words that ask for a session or a service were refused before anything was heard
-      early : (polls : ℕ) → status_of_refusal why ≡ status.OutOfMemory → Goes air polls false before before (status_of_refusal why)
-      early polls memory = inl (record { kind = ap is_early_status memory; same = refl })
+      early : (which : DiskWord) (polls : ℕ) → status_of_refusal why ≡ status.OutOfMemory → Goes air polls which before before (status_of_refusal why)
+      early which polls memory = inl (record { kind = ap (λ (t : Status). is_early_status t which) memory; same = refl })
 
       pub refused-complete : WhereHeard words air.heard before before (IsDoneBy (status_of_refusal why))
-      refused-complete = λ told. node-complete air before before (status_of_refusal why) told.asked.polls false (early told.asked.polls (session-memory why h told.asked told.asks)) told.earlier told.turns told.told_before told.told_now
+      refused-complete = λ told. node-complete air before before (status_of_refusal why) told.asked.polls Named (early Named told.asked.polls (session-memory why h told.asked told.asks)) told.earlier told.turns told.told_before told.told_now
 
       pub refused-serve_complete : WhereServed words air.heard before before (IsDoneBy (status_of_refusal why))
-      refused-serve_complete = λ told. node-complete air before before (status_of_refusal why) told.asked.polls false (early told.asked.polls (serve-memory why h told.asked told.asks)) told.earlier told.turns told.told_before told.told_now
+      refused-serve_complete = λ told. node-complete air before before (status_of_refusal why) told.asked.polls Named (early Named told.asked.polls (serve-memory why h told.asked told.asks)) told.earlier told.turns told.told_before told.told_now
 
       pub refused-serve_spent : WhereServed words air.heard before before (IsSpentBy (status_of_refusal why))
-      refused-serve_spent = λ told counted all_open. inr (2, omega arith, sym (serve-memory why h told.asked told.asks))
+      refused-serve_spent = λ told.
+          node-spent air before before (status_of_refusal why) told.asked.polls Named (early Named told.asked.polls (serve-memory why h told.asked told.asks)) told.asked.polls told.asks.text.ranges.some_polls told.earlier told.turns told.told_before told.told_now
 
       pub refused-spent : WhereHeard words air.heard before before (IsSpentBy (status_of_refusal why))
-      refused-spent = λ told counted all_open. inr (2, omega arith, sym (session-memory why h told.asked told.asks))
+      refused-spent = λ told.
+          node-spent air before before (status_of_refusal why) told.asked.polls told.asked.disk (early told.asked.disk told.asked.polls (session-memory why h told.asked told.asks)) told.asked.polls (some_polls words told.asked told.asks) told.earlier told.turns told.told_before told.told_now
 
     -- a disk that stayed has no cause
     pub refused-disk : {A D : Type 0} (reads writes : D → ℕ) (disk : D) (before : A) → HasDiskCause words reads writes disk disk before before (status_of_refusal why)

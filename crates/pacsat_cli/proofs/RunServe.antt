@@ -5,6 +5,7 @@ use Rattle.px_base.specs.declared.air.Air.{Ghosts as AirGhosts}
 use Rattle.disk_model.specs.declared.disk.Disk.{Ghosts}
 use Rattle.file_store.specs.State.{standing_of}
 use Rattle.node.specs.Lent.{lent, seen}
+use Rattle.command_words.specs.declared.disk.DiskWord.TheVariants.{Fresh, Named}
 use Rattle.command_words.specs.declared.serve.ServeRequest.{ServeRequest}
 use Rattle.command_words.specs.Laws.{Determined, OnlyOne}
 use Rattle.command_words.specs.Words.{IsServe}
@@ -12,7 +13,7 @@ use Rattle.pacsat_cli.specs.declared.status.Status.{Status}
 use Rattle.pacsat_cli.specs.declared.status.Status.TheVariants as status
 use Rattle.pacsat_cli.specs.Servers.{IsServedOver, RunsServe, WhereServed, serve_terms}
 use Rattle.pacsat_cli.specs.Sessions.{AsksFresh, AsksStore, HasDiskCause, HasReadCause, HasStoreCause, HasWriteCause, IsDoneAtEnd, IsDoneBy, IsSpentBy, RefusesExactly}
-use Rattle.pacsat_cli.proofs.Ended.{mended-disk}
+use Rattle.pacsat_cli.proofs.Ended.{heard-not_memory, mended-disk}
 use Rattle.pacsat_cli.proofs.NodeEnds.{Goes, OnDisk, is_node_status, node-complete, node-done, node-not, node-read, node-spent, node-write, on_disk-cause, on_disk-exact, on_disk-goes}
 
 module _ {A C D : Type 0} (g : Ghosts D) (air : AirGhosts A) (given : C → Option (List ℕ)) (disk disk_now : D) (before now : A) (clock clock_n : C) (asked : ServeRequest) (s : Status) where
@@ -49,18 +50,18 @@ module _ {A C D : Type 0} (g : Ghosts D) (air : AirGhosts A) (given : C → Opti
       on_disk : OnDisk g air asked.blocks asked.polls disk disk_now before now s
       on_disk = serve-on_disk over
 
-      goes : Goes air asked.polls false before now s
+      goes : Goes air asked.polls Named before now s
       goes = on_disk-goes g air asked.blocks asked.polls disk disk_now before now s on_disk
 
-      never-fresh : false ≡ true → AsksFresh words
+      never-fresh : Named ≡ Fresh → AsksFresh words
       never-fresh never = absurd (cc)
 
-      store : false ≡ false → AsksStore words
+      store : Named ≡ Named → AsksStore words
       store is = inr (asked, asks)
 
       -- no service ends with another command's status
-      pub serve-not : (other : Status) → is_node_status other ≡ false → s ≡ other → ⊥
-      serve-not = node-not air before now s asked.polls false goes
+      pub serve-not : (other : Status) → is_node_status other Named ≡ false → s ≡ other → ⊥
+      serve-not = node-not air before now s asked.polls Named goes
 
       -- the words ask for this service alone
       pub serve-runs : RunsServe words (seen g air given) (lent disk before clock) (lent disk_now now clock_n) s
@@ -68,17 +69,25 @@ module _ {A C D : Type 0} (g : Ghosts D) (air : AirGhosts A) (given : C → Opti
           let P : ServeRequest → Type 0 = λ r. IsServedOver (seen g air given) (lent disk before clock) (lent disk_now now clock_n) (serve_terms r) s in
           inr (subst P (one other is) over)
 
+      -- memory was wanted before anything was heard
+      pub serve-memory : s ≡ status.OutOfMemory → (now ≡ before) × (clock_n ≡ clock)
+      serve-memory memory =
+          elim over.ends [
+            | inl refused ↦ (refused.air, refused.clock)
+            | inr served ↦ absurd (heard-not_memory over.ended asked.polls served.run.turns served.ran.ends (sym over.status_is ∙ memory))
+          ]
+
       pub serve-complete : WhereServed words air.heard before now (IsDoneBy s)
-      serve-complete = λ told. node-complete air before now s asked.polls false goes told.earlier told.turns told.told_before told.told_now
+      serve-complete = λ told. node-complete air before now s asked.polls Named goes told.earlier told.turns told.told_before told.told_now
 
       pub serve-spent : WhereServed words air.heard before now (IsSpentBy s)
-      serve-spent = λ told. node-spent air before now s asked.polls false goes told.asked.polls told.asks.text.ranges.some_polls told.earlier told.turns told.told_before told.told_now
+      serve-spent = λ told. node-spent air before now s asked.polls Named goes told.asked.polls told.asks.text.ranges.some_polls told.earlier told.turns told.told_before told.told_now
 
       pub serve-read : HasReadCause words (air.read_faults before) (air.read_faults now) s
-      serve-read = node-read air before now s asked.polls false words goes
+      serve-read = node-read air before now s asked.polls Named words goes
 
       pub serve-write : HasWriteCause words (air.write_faults before) (air.write_faults now) s
-      serve-write = node-write air before now s asked.polls false words never-fresh store goes
+      serve-write = node-write air before now s asked.polls Named words never-fresh store goes
 
       pub serve-disk : HasDiskCause words g.read_faults g.write_faults disk disk_now before now s
       serve-disk = on_disk-cause g air asked.blocks asked.polls disk disk_now before now s on_disk words (inr (asked, asks))
@@ -95,4 +104,4 @@ module _ {A C D : Type 0} (g : Ghosts D) (air : AirGhosts A) (given : C → Opti
       }
 
       pub serve-done : s ≡ status.Done → IsDoneAtEnd air g.read_faults g.write_faults before now disk disk_now
-      serve-done = node-done air before now s asked.polls false words g.read_faults g.write_faults disk disk_now never-fresh store (only.serve_client (asked, asks)) goes serve-disk
+      serve-done = node-done air before now s asked.polls Named words g.read_faults g.write_faults disk disk_now never-fresh store (only.serve_client (asked, asks)) goes serve-disk

@@ -1,5 +1,5 @@
 -- What a run did, where the words ask for a session.
-use Rattle.std.proofs.Common.{◌≡◌, ℕ, ◌≤◌, List, refl, ap, sym, subst, ◌∙◌, inl, inr, Bool, true, false, arith}
+use Rattle.std.proofs.Common.{◌≡◌, ℕ, ◌≤◌, List, refl, ap, sym, subst, ◌∙◌, inl, inr, false, arith}
 use Rattle.std.specs.Prelude.{Option, Some, None, IsSome, IfSome}
 use Rattle.px_base.specs.declared.air.Air.{Ghosts as AirGhosts}
 use Rattle.disk_model.specs.declared.disk.Disk.{Ghosts}
@@ -11,18 +11,11 @@ use Rattle.command_words.specs.declared.request.SessionRequest.{SessionRequest}
 use Rattle.command_words.specs.Laws.{Determined, OnlyOne}
 use Rattle.command_words.specs.Numbers.{IsNumberOr}
 use Rattle.command_words.specs.Words.{IsSession}
-use Rattle.pacsat_cli.specs.declared.status.BadStore.{BadStore}
 use Rattle.pacsat_cli.specs.declared.status.Status.{Status}
 use Rattle.pacsat_cli.specs.declared.status.Status.TheVariants as status
 use Rattle.pacsat_cli.specs.Sessions.{AsksDisk, AsksFresh, AsksMoment, AsksStore, HasDiskCause, HasReadCause, HasStoreCause, HasWriteCause, IsDoneAtEnd, IsDoneBy, IsSpentBy, OverNamed, RefusesExactly, RunsSession, WhereHeard, run_terms}
-use Rattle.pacsat_cli.specs.Stops.{status_of}
-use Rattle.pacsat_cli.proofs.Ended.{heard-not_bad, memory-not_disk, mended-disk, mended-memory}
+use Rattle.pacsat_cli.proofs.Ended.{heard-not_memory, mended-disk, mended-memory}
 use Rattle.pacsat_cli.proofs.NodeEnds.{Goes, OnDisk, is_early_status, is_node_status, node-complete, node-done, node-not, node-read, node-spent, node-write, on_disk-cause, on_disk-exact, on_disk-goes}
-
--- whether this disk is one in memory
-abbrev pub is_memory : DiskWord → Bool
-is_memory Named = false
-is_memory Fresh = true
 
 module _ (words : List (List ℕ)) (asked : SessionRequest) (asks : IsSession words asked) where
   -- a number of the words is in its range
@@ -72,11 +65,11 @@ module _ {A C D : Type 0} (g : Ghosts D) (air : AirGhosts A) (given : C → Opti
         ];
   }
 
-  goes-by : (word : DiskWord) → OverNamed word (seen g air given) (lent disk before clock) (lent disk_now now clock_n) (run_terms asked) s → Goes air asked.polls (is_memory word) before now s
+  goes-by : (word : DiskWord) → OverNamed word (seen g air given) (lent disk before clock) (lent disk_now now clock_n) (run_terms asked) s → Goes air asked.polls word before now s
   goes-by Named over = on_disk-goes g air asked.blocks asked.polls disk disk_now before now s (session-on_disk over)
   goes-by Fresh over =
       elim over.1 [
-        | inl none ↦ inl (record { kind = ap is_early_status none.0; same = none.1 })
+        | inl none ↦ inl (record { kind = ap (λ (t : Status). is_early_status t Fresh) none.0; same = none.1 })
         | inr served ↦
             inr
             (record {
@@ -90,26 +83,15 @@ module _ {A C D : Type 0} (g : Ghosts D) (air : AirGhosts A) (given : C → Opti
       ]
 
   -- over one in memory no fault of the disk is answered, and no content is refused
-  memory-disk : OverNamed Fresh (seen g air given) (lent disk before clock) (lent disk_now now clock_n) (run_terms asked) s → s ≡ status.Disk → ⊥
-  memory-disk over e =
-      elim over.1 [
-        | inl none ↦ (let told = sym none.0 ∙ e in cc)
-        | inr served ↦ memory-not_disk (status_of served.ended) (sym served.status_is ∙ e)
-      ]
-
-  memory-not_bad : OverNamed Fresh (seen g air given) (lent disk before clock) (lent disk_now now clock_n) (run_terms asked) s → (why : BadStore) → s ≡ status.BadStore why → ⊥
-  memory-not_bad over why e =
-      elim over.1 [
-        | inl none ↦ (let told = sym none.0 ∙ e in cc)
-        | inr served ↦ heard-not_bad true served.ended asked.polls served.run.turns why served.ran.ends (mended-memory served.ended ∙ sym served.status_is ∙ e)
-      ]
+  memory-not : OverNamed Fresh (seen g air given) (lent disk before clock) (lent disk_now now clock_n) (run_terms asked) s → (other : Status) → is_node_status other Fresh ≡ false → s ≡ other → ⊥
+  memory-not over = node-not air before now s asked.polls Fresh (goes-by Fresh over)
 
   -- the disk's counts by how the session ended
   disk-cause : (words : List (List ℕ)) (word : DiskWord) → (word ≡ Named → AsksStore words) → OverNamed word (seen g air given) (lent disk before clock) (lent disk_now now clock_n) (run_terms asked) s → HasDiskCause words g.read_faults g.write_faults disk disk_now before now s
   disk-cause words Named names over = on_disk-cause g air asked.blocks asked.polls disk disk_now before now s (session-on_disk over) words (names refl)
   disk-cause words Fresh names over = record {
-    asked = λ e. absurd (memory-disk over e);
-    rose = λ e. absurd (memory-disk over e);
+    asked = λ e. absurd (memory-not over status.Disk refl e);
+    rose = λ e. absurd (memory-not over status.Disk refl e);
     same = λ _. ap g.write_faults over.0;
     same_reads = λ _ _. ap g.read_faults over.0;
     no_less = (let same = ap g.read_faults over.0 in omega (arith, same), let same = ap g.write_faults over.0 in omega (arith, same));
@@ -131,7 +113,7 @@ module _ {A C D : Type 0} (g : Ghosts D) (air : AirGhosts A) (given : C → Opti
       exact_notes = λ client _ _ _. absurd (only.session_client (asked, asks) client);
     }
     store-cause Fresh is over = record {
-      asked = λ why e. absurd (memory-not_bad over why e);
+      asked = λ why e. absurd (memory-not over (status.BadStore why) refl e);
       exact = λ other asks_other named _ _. absurd (let same = ap (λ (r : SessionRequest). r.disk) (one other asks_other) in cc);
       exact_served = λ other asks_other _ _. absurd (only.session_serve (asked, asks) (other, asks_other));
       exact_notes = λ client _ _ _. absurd (only.session_client (asked, asks) client);
@@ -141,21 +123,23 @@ module _ {A C D : Type 0} (g : Ghosts D) (air : AirGhosts A) (given : C → Opti
     alone Named is over none = absurd (none (inl (inl (asked, asks, is))))
     alone Fresh is over none = over.0
 
-    fresh-by : (word : DiskWord) → asked.disk ≡ word → is_memory word ≡ true → AsksFresh words
-    fresh-by Named is memory = absurd (cc)
-    fresh-by Fresh is memory = (asked, asks, is)
-
-    store-by : (word : DiskWord) → asked.disk ≡ word → is_memory word ≡ false → AsksStore words
-    store-by Named is memory = inl (asked, asks, is)
-    store-by Fresh is memory = absurd (cc)
+    -- over the disk that DISK names memory was wanted before anything was heard
+    memory-by : (word : DiskWord) → asked.disk ≡ word → OverNamed word (seen g air given) (lent disk before clock) (lent disk_now now clock_n) (run_terms asked) s → AsksStore words → s ≡ status.OutOfMemory → (now ≡ before) × (clock_n ≡ clock)
+    memory-by Named is over store memory =
+        elim over.ends [
+          | inl refused ↦ (refused.air, refused.clock)
+          | inr served ↦ absurd (heard-not_memory over.ended asked.polls served.run.turns served.ran.ends (sym over.status_is ∙ memory))
+        ]
+    memory-by Fresh is over (inl named) memory = absurd (let same = ap (λ (r : SessionRequest). r.disk) (one named.0 named.1) in let other = named.2 in cc)
+    memory-by Fresh is over (inr serve) memory = absurd (only.session_serve (asked, asks) serve)
 
     module _ (over : OverNamed asked.disk (seen g air given) (lent disk before clock) (lent disk_now now clock_n) (run_terms asked) s) where
-      goes : Goes air asked.polls (is_memory asked.disk) before now s
+      goes : Goes air asked.polls asked.disk before now s
       goes = goes-by asked.disk over
 
       -- no session ends with another command's status
-      pub session-not : (other : Status) → is_node_status other ≡ false → s ≡ other → ⊥
-      session-not = node-not air before now s asked.polls (is_memory asked.disk) goes
+      pub session-not : (other : Status) → is_node_status other asked.disk ≡ false → s ≡ other → ⊥
+      session-not = node-not air before now s asked.polls asked.disk goes
 
       -- the words ask for this session alone
       pub session-runs : RunsSession words (seen g air given) (lent disk before clock) (lent disk_now now clock_n) s
@@ -163,21 +147,25 @@ module _ {A C D : Type 0} (g : Ghosts D) (air : AirGhosts A) (given : C → Opti
           let P : SessionRequest → Type 0 = λ r. OverNamed r.disk (seen g air given) (lent disk before clock) (lent disk_now now clock_n) (run_terms r) s in
           inr (subst P (one other is) over)
 
+      pub session-memory : AsksStore words → s ≡ status.OutOfMemory → (now ≡ before) × (clock_n ≡ clock)
+      session-memory = memory-by asked.disk refl over
+
       pub session-alone : (AsksDisk words → ⊥) → disk_now ≡ disk
       session-alone = alone asked.disk refl over
 
       pub session-complete : WhereHeard words air.heard before now (IsDoneBy s)
-      session-complete = λ told. node-complete air before now s asked.polls (is_memory asked.disk) goes told.earlier told.turns told.told_before told.told_now
+      session-complete = λ told. node-complete air before now s asked.polls asked.disk goes told.earlier told.turns told.told_before told.told_now
 
       pub session-spent : WhereHeard words air.heard before now (IsSpentBy s)
       session-spent = λ told.
-          node-spent air before now s asked.polls (is_memory asked.disk) goes told.asked.polls (some_polls words told.asked told.asks) told.earlier told.turns told.told_before told.told_now
+          let P : SessionRequest → Type 0 = λ r. IsSpentBy s r.disk r.polls told.turns in
+          subst P (one told.asked told.asks) (node-spent air before now s asked.polls asked.disk goes asked.polls (some_polls words asked asks) told.earlier told.turns told.told_before told.told_now)
 
       pub session-read : HasReadCause words (air.read_faults before) (air.read_faults now) s
-      session-read = node-read air before now s asked.polls (is_memory asked.disk) words goes
+      session-read = node-read air before now s asked.polls asked.disk words goes
 
       pub session-write : HasWriteCause words (air.write_faults before) (air.write_faults now) s
-      session-write = node-write air before now s asked.polls (is_memory asked.disk) words (fresh-by asked.disk refl) (store-by asked.disk refl) goes
+      session-write = node-write air before now s asked.polls asked.disk words (λ is. (asked, asks, is)) (λ is. inl (asked, asks, is)) goes
 
       pub session-disk : HasDiskCause words g.read_faults g.write_faults disk disk_now before now s
       session-disk = disk-cause words asked.disk (λ is. inl (asked, asks, is)) over
@@ -186,4 +174,4 @@ module _ {A C D : Type 0} (g : Ghosts D) (air : AirGhosts A) (given : C → Opti
       session-bad_store = store-cause asked.disk refl over
 
       pub session-done : s ≡ status.Done → IsDoneAtEnd air g.read_faults g.write_faults before now disk disk_now
-      session-done = node-done air before now s asked.polls (is_memory asked.disk) words g.read_faults g.write_faults disk disk_now (fresh-by asked.disk refl) (store-by asked.disk refl) (only.session_client (asked, asks)) goes session-disk
+      session-done = node-done air before now s asked.polls asked.disk words g.read_faults g.write_faults disk disk_now (λ is. (asked, asks, is)) (λ is. inl (asked, asks, is)) (only.session_client (asked, asks)) goes session-disk

@@ -9,6 +9,8 @@ use Rattle.node.specs.declared.stop.NodeStop.TheVariants as stop
 use Rattle.server_node.specs.declared.terms.Served.{Served}
 use Rattle.server_node.specs.OnAir.Served.{ServerEnds}
 use Rattle.server_node.specs.declared.terms.ServerTerms.{ServerTerms}
+use Rattle.command_words.specs.declared.disk.DiskWord.{DiskWord}
+use Rattle.command_words.specs.declared.disk.DiskWord.TheVariants.{Named}
 use Rattle.command_words.specs.declared.serve.ServeRequest.{ServeRequest}
 use Rattle.command_words.specs.Words.{IsServe}
 use Rattle.pacsat_cli.specs.declared.status.Status.{Status}
@@ -47,7 +49,9 @@ pub record ServeHeard {A : Type 0} (words : List (List ℕ)) (heard : A → Opti
   pub told_before : heard before ≡ Some earlier
   pub told_now : heard now ≡ Some (earlier ++ turns)
 
--- Where the turns of a service are told, this holds of how many polls it may make, and of the turns.
+-- Where the turns of a service are told, this holds of the disk that DISK names, of how many polls it may make, and of
+-- the turns.
 abbrev pub WhereServed :
-    {A : Type 0} → List (List ℕ) → (A → Option (List Turn)) → A → A → (ℕ → List Turn → Type 0) → Type 0
-WhereServed words heard before now P = (told : ServeHeard words heard before now) → P told.asked.polls told.turns
+    {A : Type 0} → List (List ℕ) → (A → Option (List Turn)) → A → A → (DiskWord → ℕ → List Turn → Type 0) → Type 0
+WhereServed words heard before now P =
+    (told : ServeHeard words heard before now) → P Named told.asked.polls told.turns

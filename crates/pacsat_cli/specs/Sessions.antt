@@ -211,17 +211,23 @@ pub record SessionHeard {A : Type 0} (words : List (List ℕ)) (heard : A → Op
   pub told_before : heard before ≡ Some earlier
   pub told_now : heard now ≡ Some (earlier ++ turns)
 
--- Where the turns of a session are told, this holds of how many polls it may make, and of the turns.
+-- Where the turns of a session are told, this holds of the disk that it is over, of how many polls it may make, and of
+-- the turns.
 abbrev pub WhereHeard :
-    {A : Type 0} → List (List ℕ) → (A → Option (List Turn)) → A → A → (ℕ → List Turn → Type 0) → Type 0
-WhereHeard words heard before now P = (told : SessionHeard words heard before now) → P told.asked.polls told.turns
+    {A : Type 0} → List (List ℕ) → (A → Option (List Turn)) → A → A → (DiskWord → ℕ → List Turn → Type 0) → Type 0
+WhereHeard words heard before now P =
+    (told : SessionHeard words heard before now) → P told.asked.disk told.asked.polls told.turns
 
 -- where the end of the air was heard, the run is done
-abbrev pub IsDoneBy : Status → ℕ → List Turn → Type 0
-IsDoneBy status polls turns = HasEnd turns → status ≡ Done
+abbrev pub IsDoneBy : Status → DiskWord → ℕ → List Turn → Type 0
+IsDoneBy status which polls turns = HasEnd turns → status ≡ Done
 
--- where all polls were made, and none was the end or failed, the run is spent
-abbrev pub IsSpentBy : Status → ℕ → List Turn → Type 0
-IsSpentBy status polls turns =
-    length turns ≡ polls → AllByRecursion IsOpen turns
-    → IsUnless status Spent (AirWrite ∷ Disk ∷ OutOfMemory ∷ [])
+-- a fault of this disk at a write or a sync, which of one in memory is want of memory
+abbrev pub disk_fault : DiskWord → Status
+disk_fault Named = Disk
+disk_fault Fresh = OutOfMemory
+
+-- where all polls were made, and none was the end or failed, the run is spent, but for a fault of saying or of the disk
+abbrev pub IsSpentBy : Status → DiskWord → ℕ → List Turn → Type 0
+IsSpentBy status which polls turns =
+    length turns ≡ polls → AllByRecursion IsOpen turns → IsUnless status Spent (AirWrite ∷ disk_fault which ∷ [])

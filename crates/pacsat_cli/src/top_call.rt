@@ -14,8 +14,8 @@ ghost use Rattle.pacsat_cli.specs.Files.{IsNoSuchBy, IsShownBy, IsTooLongBy};
 ghost use Rattle.pacsat_cli.specs.Rehearsing.{Rehearses, setting, seen_setting};
 ghost use Rattle.pacsat_cli.specs.Run.{HasStatusCause, IsUnless, Shows, Stays};
 ghost use Rattle.pacsat_cli.specs.Servers.{RunsServe, WhereServed};
-ghost use Rattle.pacsat_cli.specs.Sessions.{AsksDisk, AsksMoment, AsksNode, HasDiskCause, HasReadCause, HasStoreCause};
-ghost use Rattle.pacsat_cli.specs.Sessions.{HasWriteCause};
+ghost use Rattle.pacsat_cli.specs.Sessions.{AsksDisk, AsksMoment, AsksNode, AsksStore, HasDiskCause, HasReadCause};
+ghost use Rattle.pacsat_cli.specs.Sessions.{HasStoreCause, HasWriteCause};
 ghost use Rattle.pacsat_cli.specs.Sessions.{IsDoneAtEnd, IsDoneBy, IsSpentBy, RunsSession, WhereHeard};
 ghost use Rattle.pacsat_cli.specs.Status.{line_of};
 ghost use Rattle.pacsat_cli.specs.Stops.{status_of_refusal};
@@ -123,8 +123,12 @@ pub fn run<D: Disk, A: Air, S: Shelf, O: Out, C: Clock, B: CutDisk>(
     // No other command than these touches the disk, nor does a session with `none` for DISK.
     ensures disk_alone { (AsksDisk words.now → ⊥) → disk.new ≡ disk.old }
 
+    // A service, or a session over the disk that DISK names, ends out of memory only before its first poll: nothing was
+    // heard or said, and the clock wasn't asked.
+    ensures memory { AsksStore words.now → result ≡ Status.OutOfMemory → (air.new ≡ air.old) × (clock.new ≡ clock.old) }
+
     // Where the end of the air was heard, the run is done. Where all polls were made, and none was the end or failed, only
-    // want of memory, a fault of saying or one of the disk comes before.
+    // a fault of saying or one of the disk comes before; over one in memory that is want of memory.
     ensures complete { WhereHeard words.now A.heard air.old air.new (IsDoneBy result) }
     ensures spent { WhereHeard words.now A.heard air.old air.new (IsSpentBy result) }
     ensures serve_complete { WhereServed words.now A.heard air.old air.new (IsDoneBy result) }

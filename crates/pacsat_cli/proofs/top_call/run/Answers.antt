@@ -21,9 +21,9 @@ use Rattle.pacsat_cli.proofs.RunFile.{file-done, file-no_such, file-not, file-ro
 use Rattle.pacsat_cli.proofs.RunMake.{asks-make, body-runs, make-not, make-runs, may-make}
 use Rattle.pacsat_cli.proofs.RunRefused.{means, refused-bad_store, refused-body, refused-complete, refused-disk, refused-fetch, refused-files, refused-list, refused-made, refused-no_such, refused-not, refused-send, refused-serve, refused-serve_complete, refused-serve_spent, refused-session, refused-shown, refused-spent, refused-too_long, refused-unread, refused-usage, refused-usage_told, rehearse-memory}
 use Rattle.pacsat_cli.proofs.RunRehearsal.{asks-rehearse, no-rehearsal, play-done, play-not, play-rose, refused-rehearsal, rehearses}
-use Rattle.pacsat_cli.proofs.RunServe.{serve-bad_store, serve-complete, serve-disk, serve-done, serve-not, serve-read, serve-runs, serve-spent, serve-write}
+use Rattle.pacsat_cli.proofs.RunServe.{serve-bad_store, serve-complete, serve-disk, serve-done, serve-memory, serve-not, serve-read, serve-runs, serve-spent, serve-write}
 use Rattle.pacsat_cli.proofs.Unasked.{unasked-client, unasked-file, unasked-make, unasked-serve, unasked-session}
-use Rattle.pacsat_cli.proofs.RunSession.{asked_moment, most_blocks, session-alone, session-bad_store, session-complete, session-disk, session-done, session-not, session-read, session-runs, session-spent, session-write, some_blocks}
+use Rattle.pacsat_cli.proofs.RunSession.{asked_moment, most_blocks, session-alone, session-bad_store, session-complete, session-disk, session-done, session-memory, session-not, session-read, session-runs, session-spent, session-write, some_blocks}
 use Rattle.pacsat_cli.proofs.top_call.run.Goals as goal
 
 -- what stayed is as it was
@@ -66,6 +66,7 @@ returns-in-Err g c =
       session_acknowledged = λ _ _ _. inl (same c.args.air.now);
       serve_acknowledged = λ _ _. inl (same c.args.air.now);
       disk_alone = λ _. same c.args.disk.now;
+      memory = λ _ _. (same c.args.air.now, same c.args.clock.now);
       complete = refused-complete words only why h g.A.Air c.args.air.now;
       spent = refused-spent words only why h g.A.Air c.args.air.now;
       serve_complete = refused-serve_complete words only why h g.A.Air c.args.air.now;
@@ -140,6 +141,7 @@ returns-in-Session g c =
       session_acknowledged = session-stands (seen g.D.Disk g.A.Air g.C.Clock.given) words (lent c.args.disk.now c.args.air.now c.args.clock.now) (lent ran.new.disk ran.new.air ran.new.clock) ran.result c.session_acknowledges_law.ensures runs;
       serve_acknowledged = no_serve.serve_acknowledged;
       disk_alone = session-alone g.D.Disk g.A.Air g.C.Clock.given c.args.disk.now ran.new.disk c.args.air.now ran.new.air c.args.clock.now ran.new.clock asked ran.result words asks only determined over;
+      memory = session-memory g.D.Disk g.A.Air g.C.Clock.given c.args.disk.now ran.new.disk c.args.air.now ran.new.air c.args.clock.now ran.new.clock asked ran.result words asks only determined over;
       complete = session-complete g.D.Disk g.A.Air g.C.Clock.given c.args.disk.now ran.new.disk c.args.air.now ran.new.air c.args.clock.now ran.new.clock asked ran.result words asks only determined over;
       spent = session-spent g.D.Disk g.A.Air g.C.Clock.given c.args.disk.now ran.new.disk c.args.air.now ran.new.air c.args.clock.now ran.new.clock asked ran.result words asks only determined over;
       serve_complete = no_serve.serve_complete;
@@ -211,6 +213,7 @@ returns-in-Serve g c =
       session_acknowledged = no_session.session_acknowledged;
       serve_acknowledged = service-stands (seen g.D.Disk g.A.Air g.C.Clock.given) words (lent c.args.disk.now c.args.air.now c.args.clock.now) (lent ran.new.disk ran.new.air ran.new.clock) ran.result c.server_acknowledges_law.ensures runs;
       disk_alone = λ none. absurd (none (inl (inr serve)));
+      memory = λ _. serve-memory g.D.Disk g.A.Air g.C.Clock.given c.args.disk.now ran.new.disk c.args.air.now ran.new.air c.args.clock.now ran.new.clock asked ran.result words asks only determined over;
       complete = no_session.complete;
       spent = no_session.spent;
       serve_complete = serve-complete g.D.Disk g.A.Air g.C.Clock.given c.args.disk.now ran.new.disk c.args.air.now ran.new.air c.args.clock.now ran.new.clock asked ran.result words asks only determined over;
@@ -277,6 +280,7 @@ returns-in-File g c =
       session_acknowledged = no_session.session_acknowledged;
       serve_acknowledged = no_serve.serve_acknowledged;
       disk_alone = λ _. same c.args.disk.now;
+      memory = λ _ _. (same c.args.air.now, same c.args.clock.now);
       complete = no_session.complete;
       spent = no_session.spent;
       serve_complete = no_serve.serve_complete;
@@ -355,6 +359,7 @@ returns-in-Making g c =
       session_acknowledged = no_session.session_acknowledged;
       serve_acknowledged = no_serve.serve_acknowledged;
       disk_alone = λ _. same c.args.disk.now;
+      memory = λ _ _. (same c.args.air.now, same c.args.clock.now);
       complete = no_session.complete;
       spent = no_session.spent;
       serve_complete = no_serve.serve_complete;
@@ -434,6 +439,7 @@ returns-in-Client g c =
       session_acknowledged = no_session.session_acknowledged;
       serve_acknowledged = no_serve.serve_acknowledged;
       disk_alone = λ none. absurd (none (inr client));
+      memory = λ store _. absurd (elim store [ inl session ↦ only.session_client (session.0, session.1) client | inr serve ↦ only.serve_client serve client ]);
       complete = no_session.complete;
       spent = no_session.spent;
       serve_complete = no_serve.serve_complete;
@@ -502,6 +508,7 @@ returns-in-Rehearse g c =
       session_acknowledged = no_session.session_acknowledged;
       serve_acknowledged = no_serve.serve_acknowledged;
       disk_alone = λ _. same c.args.disk.now;
+      memory = λ _ _. (same c.args.air.now, same c.args.clock.now);
       complete = no_session.complete;
       spent = no_session.spent;
       serve_complete = no_serve.serve_complete;
