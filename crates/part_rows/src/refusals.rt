@@ -93,7 +93,7 @@ fn store_fault(alloc: Global, name: &str, value: &str) -> Result<StoreFault> {
     })
 }
 
-/// `TooLong`, `TooMany`, `NumbersGone`, `NoRoom BLOCKS FREE`, `Failed`, `Disk`, `OutOfMemory`
+/// `TooLong`, `TooMany`, `NumbersGone`, `NoRoom BLOCKS FREE`, `Failed`, `Disk`
 fn begin_refusal(name: &str, value: &str) -> Result<BeginRefusal> {
     Ok(match name {
         "TooLong" => BeginRefusal::TooLong,
@@ -108,7 +108,6 @@ fn begin_refusal(name: &str, value: &str) -> Result<BeginRefusal> {
         }
         "Failed" => BeginRefusal::Failed,
         "Disk" => BeginRefusal::Disk,
-        "OutOfMemory" => BeginRefusal::OutOfMemory,
         _ => bail!("no refusal"),
     })
 }

@@ -106,10 +106,6 @@ fn upload<D: Disk>(
             store.park(up);
             Ended::TooMuch
         }
-        Err(AppendRefusal::OutOfMemory(up)) => {
-            store.park(up);
-            Ended::Failed
-        }
         Err(AppendRefusal::Failed | AppendRefusal::Disk) => Ended::Failed,
     }
 }

@@ -3,7 +3,9 @@
 ghost use Rattle.std.specs.Prelude.{IfOk};
 ghost use Rattle.ax25_link.specs.Window.{IsGoodK};
 
-use crate::link::frames::{MOST_PENDING, called, caller, octets_of, shown, take};
+use crate::link::frames::{
+    CALLER_SSID, MOST_PENDING, called, caller, octets_of, peer, shown, take,
+};
 use crate::link::shown::Shown;
 use anyhow::{Context, Result, bail, ensure};
 use arrayvec::ArrayVec;
@@ -17,6 +19,8 @@ use std::fmt::Display;
 struct OneLink {
     alloc: Global,
     link: Link,
+    /// The SSID of the peer.
+    ssid: u8,
     /// How many octets were pushed.
     pushed: usize,
     shown: Shown,
@@ -70,6 +74,7 @@ impl OneLink {
         OneLink {
             alloc,
             link,
+            ssid: CALLER_SSID,
             pushed: 0,
             shown: Shown::new(alloc),
         }
@@ -91,8 +96,9 @@ impl OneLink {
             self.push(count.parse::<usize>()?)?;
         } else if let Some(count) = event.strip_prefix("tick ") {
             self.play_ticks(count.parse::<u32>()?, is_held)?;
-        } else if let Some(poll) = event.strip_prefix("accept ") {
-            self.accept(poll == "1")?;
+        } else if let Some(numbers) = event.strip_prefix("accept ") {
+            let (poll, ssid) = numbers.split_once(' ').unwrap_or((numbers, "9"));
+            self.accept(poll == "1", ssid.parse::<u8>()?)?;
         } else if event == "one" {
             self.hand_out_one()?;
             return self.shown.end_part();
@@ -118,19 +124,20 @@ impl OneLink {
 
     /// Takes a frame, and shows what the link tells.
     fn play_frame(&mut self, text: &str) -> Result<()> {
-        let octets = octets_of(self.alloc, text)?;
+        let octets = octets_of(self.alloc, self.ssid, text)?;
         let heard = take(&mut self.link, octets.as_slice())?;
         self.put(format_args!("{heard:?}"))
     }
 
-    /// Answers a SABM of the peer with this P bit.
-    fn accept(&mut self, poll: bool) -> Result<()> {
+    /// Answers a SABM with this P bit of the peer with this SSID.
+    fn accept(&mut self, poll: bool, ssid: u8) -> Result<()> {
         ensure!(
             self.link.state() == LinkState::Down,
             "accepted while not down"
         );
         ensure!(!self.link.pending(), "accepted while frames are pending");
-        self.link.accept(caller()?, poll);
+        self.link.accept(peer(self.alloc, ssid)?, poll);
+        self.ssid = ssid;
         Ok(())
     }
 
@@ -189,7 +196,7 @@ impl OneLink {
         let is_given = self.link.next_out(&mut out);
         ensure!(is_given == is_pending, "pending says {is_pending}");
         if is_given {
-            let frame = shown(self.alloc, out.as_slice())?;
+            let frame = shown(self.alloc, self.ssid, out.as_slice())?;
             self.shown.put(frame.as_str())?;
         }
         Ok(is_given)
