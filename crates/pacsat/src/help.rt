@@ -6,7 +6,7 @@ use px_base::Out;
 use real_outside::StdOut;
 
 /// The version, as `--version` shows it.
-const VERSION: &str = "pacsat 0.5.0\n";
+const VERSION: &str = "pacsat 0.6.0\n";
 
 /// The words that the program takes.
 const SYNOPSIS: &str = "\
