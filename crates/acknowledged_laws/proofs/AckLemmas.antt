@@ -1,19 +1,12 @@
 -- Which row of a session's table replies UL_ACK_RESP.
 use Rattle.std.proofs.Common.{◌≡◌, ℕ, List, [], ◌∷◌, ◌++◌, ◌||◌, Bool, true, false, None, refl, sym, ◌∙◌, true≢false}
 use Rattle.std.proofs.lemmas.Option.{IfSome_then}
-use Rattle.std.specs.Prelude.{Ok, IfSome}
-use Rattle.px_base.specs.CallSign.{CallSign}
-use Rattle.ftl0_packets.specs.Items.{kind_of_item}
-use Rattle.ftl0_packets.specs.Layout.{Item, PacketValue, data_end, ul_ack_resp}
 use Rattle.pfh_items.specs.Faults.{fault_code}
-use Rattle.file_store.specs.Store.{Store, entry_of, octets_at}
 use Rattle.ftl0_session.specs.Downloads.Table as download
 use Rattle.ftl0_session.specs.Downloads.Table.{DownloadState, ready}
 use Rattle.ftl0_session.specs.Lists.Lists.{CallerList}
-use Rattle.ftl0_session.specs.Table.{State, error_by, receiving, session_row, state_by}
-use Rattle.ftl0_session.specs.Uploads.Session.{is_all, is_upload_kind}
 use Rattle.ftl0_session.proofs.downloads.ReplyLemmas.{row_replies}
-use Rattle.ftl0_session.proofs.Offered.{OfUploads, session-case, upload-case}
+use Rattle.acknowledged_laws.proofs.Names.{Ok, IfSome, CallSign, kind_of_item, Item, PacketValue, data_end, ul_ack_resp, Store, entry_of, octets_at, State, error_by, receiving, session_row, state_by, is_all, is_upload_kind, OfUploads, session-case, upload-case}
 
 abbrev pub is_ack : PacketValue → Bool
 is_ack ul_ack_resp = true

@@ -1,28 +1,20 @@
 -- The files that a session or a server acknowledges stand.
 use Rattle.std.proofs.lemmas.Grind.{common_steps}
 use Rattle.std.proofs.Common.{◌≡◌, ◌⊎◌, inl, inr, ⊎_elim, ℕ, zero, suc, ◌+◌, ◌≤◌, List, [], ◌∷◌, ◌++◌, length, Bool, true, false, Option, None, Some, refl, sym, ap, subst, ◌∙◌, append_assoc, append-nil, length-append, true≢false, arith}
-use Rattle.std.specs.Prelude.{slice_index, Ok, Err, IsErrOf, Result}
-use Rattle.px_base.specs.CallSign.{CallSign}
 use Rattle.px_base.specs.Octets.{IsFront}
 use Rattle.disk_model.specs.declared.disk.Disk.{Ghosts}
-use Rattle.ftl0_packets.specs.Items.{texts}
-use Rattle.ftl0_packets.specs.Layout.{Item, PacketValue, data_end, ul_ack_resp}
 use Rattle.file_journal.specs.Through.{HadRoom, StandsThrough}
 use Rattle.file_journal.proofs.Offered.{done_stay, front_done, rises_all, told_weaker}
 use Rattle.file_store.specs.Command.{AreAllowed, Command, after_all, last_grow, seal}
 use Rattle.file_store.specs.OnDisk.{MakesBetween}
 use Rattle.file_store.specs.State.{IsKnown, store_form}
-use Rattle.file_store.specs.Store.{Entry, Holding, Store, complete, entry_of, partial}
 use Rattle.file_store.proofs.Offered.{AreAllowed-split, after_all-append}
 use Rattle.ftl0_session.specs.Answering.{SendsSome}
 use Rattle.ftl0_session.specs.Laws.{AcknowledgedStandsLaw}
 use Rattle.ftl0_session.specs.Run.{Event, RunsOver, Sends, Session, event_row, session_over}
-use Rattle.ftl0_session.specs.Table.{Row, State, command, due_at, fault_reply, receiving, session_row}
 use Rattle.ftl0_session.specs.Uploads.Failures.{Failure, failed_reads, failed_write, read_fails}
 use Rattle.ftl0_session.specs.Uploads.Laws.{IsWhole}
 use Rattle.ftl0_session.specs.Uploads.Session as upload
-use Rattle.ftl0_session.specs.Uploads.Session.{is_all, is_upload_kind, whole_row}
-use Rattle.ftl0_session.proofs.Offered.{runs, runs-trans}
 use Rattle.ax25_link.specs.Rows.{after_frame}
 use Rattle.ax25_link.specs.declared.state.Heard.{Heard as HeardKind}
 use Rattle.ftl0_packets.proofs.SplitLemmas.{texts-append}
@@ -39,7 +31,7 @@ use Rattle.ax25_frames.specs.FrameText.{FrameValue}
 use Rattle.server_node.specs.OnAir.Serving.{server_steps}
 use Rattle.ftl0_server.proofs.Offered.{serves}
 use Rattle.node.specs.Events.{NodeEvent}
-use Rattle.node.specs.Lent.{Seen}
+use Rattle.acknowledged_laws.proofs.Names.{slice_index, Ok, Err, IsErrOf, Result, CallSign, texts, Item, PacketValue, data_end, ul_ack_resp, Entry, Holding, Store, complete, entry_of, partial, Row, State, command, due_at, fault_reply, receiving, session_row, is_all, is_upload_kind, whole_row, runs, runs-trans, Seen}
 use Rattle.acknowledged_laws.proofs.AckLemmas.{IsAllGood, acks, is_ack, row-acks}
 use Rattle.acknowledged_laws.specs.Acknowledged.{AcknowledgedSince, FileEnd, IsServerServed, IsSessionServed, MeetsEvent, ServerAcknowledgesLaw, ServerTakes, SessionAcknowledgesLaw, TakesPacket, row_of_end, taken_first}
 use Rattle.server_node.specs.OnAir.Served.{server_from}

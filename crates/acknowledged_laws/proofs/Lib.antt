@@ -1,2 +1,3 @@
 mod AckLemmas
 mod AcknowledgedLemmas
+mod Names

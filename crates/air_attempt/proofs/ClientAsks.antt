@@ -3,24 +3,7 @@
 use Rattle.std.proofs.Common.{◌≡◌, ℕ, List, [], ◌∷◌, ◌++◌, map, Bool, true, false, Option, None, Some, refl, inl, sym}
 use Rattle.std.proofs.Common.{ap, ◌∙◌, subst, arith}
 use Rattle.std.specs.Prelude.{if◌then◌else◌, ◌&&◌, ◌||◌}
-use Rattle.px_base.specs.CallSign.{CallSign}
-use Rattle.ax25_frames.specs.declared.control.Control.{Control}
-use Rattle.ax25_frames.specs.FrameText.{FrameValue}
-use Rattle.ax25_link.specs.Air.{IsLawful, Transmission, delivering, fresh, sending_all}
-use Rattle.ax25_link.specs.Ends.{LinkEnd, call, calling_end}
-use Rattle.ax25_link.specs.Frames.{frame_of_reply}
-use Rattle.ax25_link.specs.Laws.{AreAnswers, HasNoCall, IsUnused}
-use Rattle.ax25_link.specs.Refusals.{is_answered, refusal_frame}
-use Rattle.ax25_link.specs.Rows.{is_call}
-use Rattle.ax25_link.specs.Window.{IsWindow, Window}
-use Rattle.ax25_link.proofs.Offered.{prefix_law}
-use Rattle.ftl0_job.specs.JobState.{IsNew}
-use Rattle.ftl0_job.specs.Table.{JobState}
-use Rattle.ftl0_client.specs.Attempt.Attempted.{calling}
-use Rattle.ftl0_client.specs.Attempt.Hearing.{with_end}
-use Rattle.air_attempt.specs.Attempt.{AreFromTo, Attempt, IsAnsweredBy, IsAttempt, IsFromTo, IsRefusal, client_station}
-use Rattle.air_attempt.specs.Attempt.{server_station}
-use Rattle.air_attempt.specs.Sides.{IsJob, ServerSide}
+use Rattle.air_attempt.proofs.Names.{CallSign, Control, FrameValue, IsLawful, Transmission, delivering, fresh, sending_all, LinkEnd, call, calling_end, frame_of_reply, AreAnswers, HasNoCall, IsUnused, is_answered, refusal_frame, is_call, IsWindow, Window, prefix_law, IsNew, JobState, calling, with_end, AreFromTo, Attempt, IsAnsweredBy, IsAttempt, IsFromTo, IsRefusal, client_station, server_station, IsJob, ServerSide}
 use Rattle.air_attempt.proofs.ListLemmas.{all-at, each-append}
 use Rattle.air_attempt.proofs.Transmissions.{all-delivered, from-delivered, one-call-sent}
 use Rattle.air_attempt.proofs.PacketLists.{no-packets, no-rest}

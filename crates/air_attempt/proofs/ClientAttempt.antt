@@ -1,22 +1,6 @@
 -- The newest attempt of a client, once its end of the link heard a frame or a tick came.
 use Rattle.std.proofs.Common.{◌≡◌, ℕ, List, [], ◌++◌, true, None, Some, sym, ap, ◌∙◌, subst}
-use Rattle.std.specs.List.{AllByRecursion, concat}
-use Rattle.px_base.specs.CallSign.{CallSign}
-use Rattle.px_base.specs.Octets.{IsFront, IsOctets}
-use Rattle.ax25_frames.specs.FrameText.{FrameValue}
-use Rattle.ftl0_packets.proofs.OctetLemmas.{IsOctets-nil}
-use Rattle.ax25_link.specs.Air.{Transmission, sending_all}
-use Rattle.ax25_link.specs.declared.state.LinkState.TheVariants.{Calling}
-use Rattle.ax25_link.specs.Laws.{HasNoCall, IsUnused}
-use Rattle.ax25_link.specs.Linked.{AreLinked}
-use Rattle.ax25_link.specs.Sending.{IsQuiet}
-use Rattle.ax25_link.specs.Stations.{SendsOwn}
-use Rattle.ax25_link.specs.Window.{Window}
-use Rattle.ax25_link.proofs.Offered.{prefix_law}
-use Rattle.ftl0_client.specs.Entries.{JobEntry}
-use Rattle.air_attempt.specs.Attempt.{AreFromTo, Attempt, IsAnswered, IsAnsweredBy, IsAttempt, IsRefusal, IsUnanswered}
-use Rattle.air_attempt.specs.Attempt.{client_station, server_station}
-use Rattle.air_attempt.specs.Sides.{ClientSide, IsJob, ServerSide, said_by_server}
+use Rattle.air_attempt.proofs.Names.{AllByRecursion, concat, CallSign, IsFront, IsOctets, FrameValue, IsOctets-nil, Transmission, sending_all, Calling, HasNoCall, IsUnused, AreLinked, IsQuiet, SendsOwn, Window, prefix_law, JobEntry, AreFromTo, Attempt, IsAnswered, IsAnsweredBy, IsAttempt, IsRefusal, IsUnanswered, client_station, server_station, ClientSide, IsJob, ServerSide, said_by_server}
 use Rattle.air_attempt.proofs.ClientUnanswered.{StaysWaiting, Waits}
 use Rattle.air_attempt.proofs.PacketLists.{octets-of_front}
 use Rattle.air_attempt.proofs.Sent.{stays-of}

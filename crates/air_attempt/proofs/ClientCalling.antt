@@ -1,22 +1,7 @@
 -- An end that calls: nothing was pushed at it, and it stays so while it calls.
 use Rattle.std.proofs.Common.{◌≡◌, ◌+◌, List, [], ◌∷◌, Bool, true, false, Option, None, Some, sym, ap, ◌∙◌, subst}
-use Rattle.std.specs.Prelude.{if◌then◌else◌, ◌&&◌, not, nat_lt}
-use Rattle.std.proofs.lemmas.Option.{same_Some}
-use Rattle.ax25_frames.specs.declared.control.Control.{Control}
-use Rattle.ax25_frames.specs.declared.control.Control.TheVariants.{Ua, Disc, Dm}
-use Rattle.ax25_frames.specs.FrameText.{FrameValue}
-use Rattle.ax25_link.specs.Calls.{Doing, DoesAll, abandon, after_doing, hang_up, push}
-use Rattle.ax25_link.specs.declared.state.Heard.{Heard}
-use Rattle.ax25_link.specs.declared.state.Heard.TheVariants.{Nothing, Opened, Reopened, Bytes, Closed}
-use Rattle.ax25_link.specs.declared.state.LinkState.{LinkState}
-use Rattle.ax25_link.specs.declared.state.LinkState.TheVariants.{Calling, Up, Down}
-use Rattle.ax25_link.specs.Ends.{Farewell, LinkEnd, Reply, call, oldest, outstanding, refuse}
-use Rattle.ax25_link.specs.Laws.{IsUnused}
-use Rattle.ax25_link.specs.Rows.{after_frame, calling_row, entering, replying, row_of_state}
-use Rattle.ax25_link.specs.Sending.{Drains, Sending, has_new, is_empty, last_sending, later_sending, sending_after}
-use Rattle.ax25_link.specs.Sending.{sends_again, sends_farewell, sends_new, sends_reply}
-use Rattle.ax25_link.specs.Timer.{after_tick, is_down, is_spent, is_up, runs_out, timer_reply, trying}
-use Rattle.ax25_link.specs.Window.{Window}
+use Rattle.std.specs.Prelude.{if◌then◌else◌, ◌&&◌}
+use Rattle.air_attempt.proofs.Names.{not, nat_lt, same_Some, Control, Ua, Disc, Dm, FrameValue, Doing, DoesAll, abandon, after_doing, hang_up, push, Heard, Nothing, Opened, Reopened, Bytes, Closed, LinkState, Calling, Up, Down, Farewell, LinkEnd, Reply, call, oldest, outstanding, refuse, IsUnused, after_frame, calling_row, entering, replying, row_of_state, Drains, Sending, has_new, is_empty, last_sending, later_sending, sending_after, sends_again, sends_farewell, sends_new, sends_reply, after_tick, is_down, is_spent, is_up, runs_out, timer_reply, trying, Window}
 use Rattle.air_attempt.proofs.ClientRows.{StateAs}
 
 -- where an end calls, it called before

@@ -1,20 +1,8 @@
 -- What a frame and a tick make of an attempt, by the laws of a client's attempts.
 use Rattle.std.proofs.Common.{◌≡◌, [], true, false, Option, None, Some, refl, sym, ◌∙◌}
-use Rattle.ax25_frames.specs.FrameText.{FrameValue}
-use Rattle.ax25_link.specs.declared.state.Why.{Why}
-use Rattle.ax25_link.specs.Ends.{LinkEnd}
-use Rattle.ax25_link.specs.LinkStep.{heard_of_tick}
-use Rattle.ax25_link.specs.Refusals.{refusal_frame}
-use Rattle.ax25_link.specs.Rows.{row}
-use Rattle.ax25_link.specs.Timer.{after_tick, told_of_tick}
-use Rattle.ax25_link.specs.Window.{Window}
-use Rattle.client_notes.specs.Laws.{after_all}
-use Rattle.client_notes.specs.Notes.{Lists}
-use Rattle.ftl0_client.specs.Attempt.Attempted.{Attempted}
-use Rattle.ftl0_client.specs.Attempt.Hearing.{after_told, hearing, packets_told, ticking, with_end}
-use Rattle.ftl0_client.specs.Attempt.Laws.{IsToldDown, OutcomeLaw}
-use Rattle.ftl0_client.specs.Attempt.Settling.{settled}
-use Rattle.ftl0_client.specs.Entries.{HearingLaw, TickingLaw, entries_heard, entries_ticked}
+use Rattle.ftl0_client.specs.Attempt.Hearing.{hearing}
+use Rattle.ftl0_client.specs.Entries.{HearingLaw}
+use Rattle.air_attempt.proofs.Names.{FrameValue, Why, LinkEnd, heard_of_tick, refusal_frame, row, after_tick, told_of_tick, Window, after_all, Lists, Attempted, after_told, packets_told, ticking, with_end, IsToldDown, OutcomeLaw, settled, TickingLaw, entries_heard, entries_ticked}
 use Rattle.air_attempt.proofs.ClientJob.{Happens}
 use Rattle.air_attempt.proofs.ClientRows.{frame-comes, tick-comes, tick_outcome}
 use Rattle.air_attempt.proofs.ClientWorks.{after_of}

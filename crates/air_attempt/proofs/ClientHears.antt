@@ -1,23 +1,8 @@
 -- The newest attempt of a client, once a frame of the server comes to its end of the link.
 use Rattle.std.proofs.Common.{◌≡◌, ℕ, List, true, Option, None, Some, refl}
-use Rattle.std.specs.List.{AllByRecursion}
-use Rattle.px_base.specs.CallSign.{CallSign}
-use Rattle.ax25_frames.specs.FrameText.{FrameValue}
-use Rattle.ax25_link.specs.Air.{IsLawful, Transmission, delivering}
-use Rattle.ax25_link.specs.Ends.{LinkEnd}
-use Rattle.ax25_link.specs.Laws.{HasNoCall}
-use Rattle.ax25_link.specs.LinkStep.{frame, heard_of_coming, tick}
-use Rattle.ax25_link.specs.Rows.{row}
-use Rattle.ax25_link.proofs.Offered.{prefix_law}
-use Rattle.client_notes.specs.Laws.{after_all}
-use Rattle.client_notes.specs.Notes.{Lists}
-use Rattle.ftl0_client.specs.Attempt.Attempted.{Attempted}
 use Rattle.ftl0_client.specs.Attempt.Hearing.{hearing}
-use Rattle.ftl0_client.specs.Attempt.Laws.{OutcomeLaw}
-use Rattle.ftl0_client.specs.Entries.{HearingLaw, JobEntry, entries_heard}
-use Rattle.air_attempt.specs.Attempt.{Attempt, IsAnsweredBy, IsAttempt, IsRefusal, IsUnanswered, client_station}
-use Rattle.air_attempt.specs.Attempt.{server_station}
-use Rattle.air_attempt.specs.Sides.{ClientSide, ServerSide}
+use Rattle.ftl0_client.specs.Entries.{HearingLaw}
+use Rattle.air_attempt.proofs.Names.{AllByRecursion, CallSign, FrameValue, IsLawful, Transmission, delivering, LinkEnd, HasNoCall, frame, heard_of_coming, tick, row, prefix_law, after_all, Lists, Attempted, OutcomeLaw, JobEntry, entries_heard, Attempt, IsAnsweredBy, IsAttempt, IsRefusal, IsUnanswered, client_station, server_station, ClientSide, ServerSide}
 use Rattle.air_attempt.proofs.ClientAttempt.{Stands, attempt-moves, linked-stands, moved, waiting-stands, waits-of}
 use Rattle.air_attempt.proofs.ClientHappens.{frame-happens}
 use Rattle.air_attempt.proofs.ClientJob.{SaysInRange, gone_on, job-goes-on}

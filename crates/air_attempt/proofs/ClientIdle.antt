@@ -1,17 +1,8 @@
 -- An end of a link that isn't up and has nothing to send; and what the timer has it send while it calls.
 use Rattle.std.proofs.Common.{◌≡◌, ◌⊎◌, ℕ, ◌+◌, List, [], ◌∷◌, Bool, true, false, Option, None, Some, refl, inl, inr}
 use Rattle.std.proofs.Common.{sym, ap, ◌∙◌, subst}
-use Rattle.std.specs.Prelude.{if◌then◌else◌, ◌&&◌, not, nat_lt}
-use Rattle.std.proofs.lemmas.Option.{same_Some}
-use Rattle.ax25_frames.specs.FrameText.{FrameValue}
-use Rattle.ax25_link.specs.Ends.{Farewell, LinkEnd, Reply, call, outstanding}
-use Rattle.ax25_link.specs.declared.state.LinkState.{LinkState}
-use Rattle.ax25_link.specs.declared.state.LinkState.TheVariants.{Calling, Down}
-use Rattle.ax25_link.specs.Rows.{entering, is_call, replying, unless_oldest}
-use Rattle.ax25_link.specs.Sending.{Drains, IsQuiet, Sending, has_new, is_empty, last_sending, later_sending}
-use Rattle.ax25_link.specs.Sending.{sending_after, sends_again, sends_new, sends_reply}
-use Rattle.ax25_link.specs.Timer.{after_tick, is_down, is_spent, is_up, runs_out, timer_reply, trying}
-use Rattle.ax25_link.specs.Window.{Window}
+use Rattle.std.specs.Prelude.{if◌then◌else◌, ◌&&◌}
+use Rattle.air_attempt.proofs.Names.{not, nat_lt, same_Some, FrameValue, Farewell, LinkEnd, Reply, call, outstanding, LinkState, Calling, Down, entering, is_call, replying, unless_oldest, Drains, IsQuiet, Sending, has_new, is_empty, last_sending, later_sending, sending_after, sends_again, sends_new, sends_reply, after_tick, is_down, is_spent, is_up, runs_out, timer_reply, trying, Window}
 
 -- it isn't up, and has nothing to send
 pub record Idle (end : LinkEnd) : Type 0 where

@@ -1,25 +1,6 @@
 -- A job goes on by what a frame or a tick makes of it: it is still one that its packets lead to.
 use Rattle.std.proofs.Common.{◌≡◌, ℕ, List, [], ◌++◌, sym, ap, ap₂, ◌∙◌, subst, append-nil}
-use Rattle.std.specs.List.{AllByRecursion, concat}
-use Rattle.px_base.specs.Octets.{IsOctets}
-use Rattle.ftl0_packets.specs.Items.{texts}
-use Rattle.ftl0_packets.specs.Layout.{Fits, Item, PacketValue}
-use Rattle.ftl0_packets.specs.Reading.{packets_of, rest_of}
-use Rattle.ax25_link.specs.Calls.{Doing, DoesAll}
-use Rattle.ax25_link.specs.declared.state.Heard.{Heard}
-use Rattle.ax25_link.specs.declared.state.Heard.TheVariants.{Nothing, Opened, Reopened, Bytes, Closed}
-use Rattle.ax25_link.specs.declared.state.LinkState.{LinkState}
-use Rattle.ax25_link.specs.Ends.{LinkEnd}
-use Rattle.ax25_link.specs.Rows.{Outcome}
-use Rattle.client_notes.specs.Notes.{Lists}
-use Rattle.ftl0_job.specs.JobState.{NotesGoWith}
-use Rattle.ftl0_job.specs.Table.{new_job}
-use Rattle.ftl0_client.specs.Attempt.Attempted.{Attempted}
-use Rattle.ftl0_client.specs.Attempt.Hearing.{after_told, packets_told, with_end}
-use Rattle.ftl0_client.specs.Attempt.Laws.{IsToldDown, StaysReached}
-use Rattle.ftl0_client.specs.Entries.{GoesBy, JobEntry, items_in, said_in}
-use Rattle.air_attempt.specs.Laws.{WorkFits}
-use Rattle.air_attempt.specs.Sides.{ClientSide, IsJob}
+use Rattle.air_attempt.proofs.Names.{AllByRecursion, concat, IsOctets, texts, Fits, Item, PacketValue, packets_of, rest_of, Doing, DoesAll, Heard, Nothing, Opened, Reopened, Bytes, Closed, LinkState, LinkEnd, Outcome, Lists, NotesGoWith, new_job, Attempted, after_told, packets_told, with_end, IsToldDown, StaysReached, GoesBy, JobEntry, items_in, said_in, WorkFits, ClientSide, IsJob}
 use Rattle.air_attempt.proofs.ClientRows.{Comes}
 use Rattle.air_attempt.proofs.ClientWorks.{CallsOrUp, KeepsWorking, after_of, keeps-working, rest-kept}
 use Rattle.air_attempt.proofs.JobAppend.{items-then, reaches-by, reaches-then, said-then, texts-then}

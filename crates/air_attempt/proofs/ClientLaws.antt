@@ -1,31 +1,18 @@
 -- The attempts of a client go with it, whatever comes to it.
 use Rattle.std.proofs.Common.{◌≡◌, ℕ, List, [], ◌∷◌, map, Bool, true, false, Option, None, Some, refl, sym, ap, ◌∙◌}
 use Rattle.std.proofs.Common.{subst}
-use Rattle.std.specs.Prelude.{if◌then◌else◌, slice_get}
-use Rattle.std.proofs.lemmas.Option.{same_Some}
-use Rattle.px_base.specs.CallSign.{CallSign}
-use Rattle.ax25_frames.specs.FrameText.{FrameValue}
-use Rattle.ax25_link.specs.Air.{IsLawful, Transmission, delivering, fresh}
-use Rattle.ax25_link.specs.Ends.{LinkEnd}
+use Rattle.std.specs.Prelude.{if◌then◌else◌}
 use Rattle.ax25_link.specs.LinkStep as coming
-use Rattle.ax25_link.specs.Window.{Window}
-use Rattle.ftl0_session.proofs.uploads.UploadRows.{same_call-decides}
 use Rattle.client_notes.specs.Command.{NotesCommand}
 use Rattle.client_notes.specs.Notes.{is_same_call}
-use Rattle.ftl0_job.specs.Table.{JobState}
-use Rattle.ftl0_client.specs.Attempt.Attempted.{Attempted}
-use Rattle.ftl0_client.specs.Attempt.Hearing.{hearing, ticking, with_end}
-use Rattle.ftl0_client.specs.Attempt.Laws.{OutcomeLaw}
-use Rattle.ftl0_client.specs.Attempt.Taking.{Happened, quietly}
+use Rattle.ftl0_client.specs.Attempt.Hearing.{hearing}
+use Rattle.ftl0_client.specs.Attempt.Taking.{Happened}
 use Rattle.ftl0_client.specs.Client.{Client, ClientEvent, asks, attempt_for, heard_by, hears, ticks, with_attempt}
 use Rattle.ftl0_client.specs.ClientStep.{ClientStep}
-use Rattle.ftl0_client.specs.Entries.{HearingLaw, TickingLaw, entries_heard, entries_ticked}
+use Rattle.ftl0_client.specs.Entries.{HearingLaw}
 use Rattle.ftl0_client.specs.Laws.{HasStep, MayStep, OneStepLaw, SomeStepLaw}
 use Rattle.client_laws.specs.Steps.{StepLaw, StepsBy, answers_to, called_for, sabm_of}
-use Rattle.air_attempt.specs.Attempt.{Attempt, IsAttempt, IsFromTo}
-use Rattle.air_attempt.specs.Laws.{ClientLaw, DeliversToClient, GoesWith, MayComeTo, MaySay, MaySayAt}
-use Rattle.air_attempt.specs.Party.{IsLinkOf, to_client_delivered, with_newest}
-use Rattle.air_attempt.specs.Transfers.{ClientDid, after_event, called_again, did_by, has_call, job_gone_on}
+use Rattle.air_attempt.proofs.Names.{slice_get, same_Some, CallSign, FrameValue, IsLawful, Transmission, delivering, fresh, LinkEnd, Window, same_call-decides, JobState, Attempted, ticking, with_end, OutcomeLaw, quietly, TickingLaw, entries_heard, entries_ticked, Attempt, IsAttempt, IsFromTo, ClientLaw, DeliversToClient, GoesWith, MayComeTo, MaySay, MaySayAt, IsLinkOf, to_client_delivered, with_newest, ClientDid, after_event, called_again, did_by, has_call, job_gone_on}
 use Rattle.air_attempt.proofs.ClientAsks.{asked-attempt, passed-attempt}
 use Rattle.air_attempt.proofs.ClientAttempt.{moved}
 use Rattle.air_attempt.proofs.ClientHears.{frame-moves}

@@ -1,16 +1,6 @@
 -- A whole step of the end of a link that called, at a frame or a tick.
 use Rattle.std.proofs.Common.{◌≡◌, ℕ, List, [], true, refl, sym, ap, ◌∙◌, subst}
-use Rattle.ax25_frames.specs.FrameText.{FrameValue}
-use Rattle.ax25_link.specs.Calls.{Doing}
-use Rattle.ax25_link.specs.declared.state.LinkState.TheVariants.{Calling}
-use Rattle.ax25_link.specs.Ends.{LinkEnd}
-use Rattle.ax25_link.specs.Laws.{IsUnused}
-use Rattle.ax25_link.specs.LinkStep.{Coming, LinkStep, after_coming, frame, heard_of_coming, tick}
-use Rattle.ax25_link.specs.Rows.{Outcome, row}
-use Rattle.ax25_link.specs.Sending.{IsQuiet}
-use Rattle.ax25_link.specs.Stations.{SendsOwn}
-use Rattle.ax25_link.specs.Window.{IsWindow, Window}
-use Rattle.ax25_link.proofs.Offered.{stations_law}
+use Rattle.air_attempt.proofs.Names.{FrameValue, Doing, Calling, LinkEnd, IsUnused, Coming, LinkStep, after_coming, frame, heard_of_coming, tick, Outcome, row, IsQuiet, SendsOwn, IsWindow, Window, stations_law}
 use Rattle.air_attempt.proofs.ClientCalling.{called-before, does-calling, drains-unused, frame-unused, tick-unused}
 use Rattle.air_attempt.proofs.ClientRows.{Comes, frame-comes, tick-comes, tick_outcome}
 use Rattle.air_attempt.proofs.LinkKeeps.{KeepsStreams, drains-keep, drains-quiet}

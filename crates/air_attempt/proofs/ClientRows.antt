@@ -1,25 +1,9 @@
 -- What a frame and a tick make of the end of a link that called: what was pushed and what came, and its state.
 use Rattle.std.proofs.Common.{◌≡◌, ℕ, ◌+◌, ◌==◌, List, [], Bool, true, false, None, Some, refl, sym, ◌∙◌, subst}
 use Rattle.std.specs.Prelude.{if◌then◌else◌, ◌&&◌, ◌||◌}
-use Rattle.std.proofs.lemmas.Bool.{cond_both}
-use Rattle.ax25_frames.specs.declared.control.Control.{Control}
-use Rattle.ax25_frames.specs.declared.control.Control.TheVariants.{I, Rr, Rnr, Rej, Sabm, Disc, Dm, Ua, Frmr, Ui}
-use Rattle.ax25_frames.specs.FrameText.{FrameValue}
-use Rattle.ax25_link.specs.Acknowledging.{Meaning, applying, bad, good, is_bad, is_good, meaning_of, stale}
-use Rattle.ax25_link.specs.declared.state.Heard.{Heard}
-use Rattle.ax25_link.specs.declared.state.Heard.TheVariants.{Nothing, Opened, Reopened, Bytes, Closed}
-use Rattle.ax25_link.specs.declared.state.LinkState.{LinkState}
-use Rattle.ax25_link.specs.declared.state.LinkState.TheVariants.{Calling, Up, Ending, Down}
+use Rattle.ax25_link.specs.declared.state.LinkState.TheVariants.{Ending}
 use Rattle.ax25_link.specs.declared.state.Why.TheVariants as why
-use Rattle.ax25_link.specs.Ends.{LinkEnd, answering_end, ready, refuse}
-use Rattle.ax25_link.specs.Frames.{receive_number}
-use Rattle.ax25_link.specs.LinkStep.{heard_of_tick}
-use Rattle.ax25_link.specs.Rows.{Outcome, accepting, calling_row, down_row, ending_row, entering, information_row}
-use Rattle.ax25_link.specs.Rows.{is_call, numbered_row, out_of_sequence, outcome, passed_over, refusing, replying, row}
-use Rattle.ax25_link.specs.Rows.{row_of_state, sending_again, supervisory_row, up_row, with_busy}
-use Rattle.ax25_link.specs.Timer.{after_tick, is_down, is_spent, runs_out, told_of_tick, trying}
-use Rattle.ax25_link.specs.Window.{Window}
-use Rattle.ax25_link.proofs.Offered.{acknowledging-keeps}
+use Rattle.air_attempt.proofs.Names.{cond_both, Control, I, Rr, Rnr, Rej, Sabm, Disc, Dm, Ua, Frmr, Ui, FrameValue, Meaning, applying, bad, good, is_bad, is_good, meaning_of, stale, Heard, Nothing, Opened, Reopened, Bytes, Closed, LinkState, Calling, Up, Down, LinkEnd, answering_end, ready, refuse, receive_number, heard_of_tick, Outcome, accepting, calling_row, down_row, ending_row, entering, information_row, is_call, numbered_row, out_of_sequence, outcome, passed_over, refusing, replying, row, row_of_state, sending_again, supervisory_row, up_row, with_busy, after_tick, is_down, is_spent, runs_out, told_of_tick, trying, Window, acknowledging-keeps}
 use Rattle.air_attempt.proofs.LinkKeeps.{taken_as}
 
 -- the state once this was told

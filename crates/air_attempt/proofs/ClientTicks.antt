@@ -1,29 +1,7 @@
 -- The newest attempt of a client, once a tick came: it goes on, or a further SABM was sent, with which one begins.
 use Rattle.std.proofs.Common.{◌≡◌, ◌⊎◌, ℕ, List, [], ◌∷◌, ◌++◌, map, true, false, Option, None, Some, refl, inl, inr}
 use Rattle.std.proofs.Common.{sym, ap, ◌∙◌, subst}
-use Rattle.std.specs.List.{concat}
-use Rattle.px_base.specs.CallSign.{CallSign}
-use Rattle.px_base.specs.Octets.{IsOctets}
-use Rattle.ax25_frames.specs.FrameText.{FrameValue}
-use Rattle.ftl0_packets.specs.Items.{texts}
-use Rattle.ftl0_packets.specs.Reading.{packets_of}
-use Rattle.ftl0_packets.proofs.OctetLemmas.{IsOctets-nil}
-use Rattle.ax25_link.specs.Air.{fresh}
-use Rattle.ax25_link.specs.declared.state.LinkState.{LinkState}
-use Rattle.ax25_link.specs.declared.state.LinkState.TheVariants.{Calling}
-use Rattle.ax25_link.specs.Ends.{LinkEnd}
-use Rattle.ax25_link.specs.Laws.{HasNoCall, IsUnused}
-use Rattle.ax25_link.specs.LinkStep.{heard_of_coming, tick}
-use Rattle.ax25_link.proofs.Offered.{prefix_law}
-use Rattle.client_notes.specs.Notes.{Lists}
-use Rattle.ftl0_client.specs.Attempt.Attempted.{Attempted}
-use Rattle.ftl0_client.specs.Attempt.Hearing.{ticking, with_end}
-use Rattle.ftl0_client.specs.Attempt.Laws.{OutcomeLaw}
-use Rattle.ftl0_client.specs.Entries.{JobEntry, TickingLaw, entries_ticked, items_in, lost, passed, queued, said_in}
-use Rattle.ftl0_client.specs.Entries.{took}
-use Rattle.air_attempt.specs.Attempt.{Attempt, IsAnsweredBy, IsAttempt, IsOneCall, client_station, server_station}
-use Rattle.air_attempt.specs.Sides.{ClientSide, IsJob, ServerSide}
-use Rattle.air_attempt.specs.Transfers.{has_call}
+use Rattle.air_attempt.proofs.Names.{concat, CallSign, IsOctets, FrameValue, texts, packets_of, IsOctets-nil, fresh, LinkState, Calling, LinkEnd, HasNoCall, IsUnused, heard_of_coming, tick, prefix_law, Lists, Attempted, ticking, with_end, OutcomeLaw, JobEntry, TickingLaw, entries_ticked, items_in, lost, passed, queued, said_in, took, Attempt, IsAnsweredBy, IsAttempt, IsOneCall, client_station, server_station, ClientSide, IsJob, ServerSide, has_call}
 use Rattle.air_attempt.proofs.ClientAttempt.{Stands, attempt-moves, linked-stands, moved, waiting-stands, waits-of}
 use Rattle.air_attempt.proofs.ClientHappens.{tick-happens}
 use Rattle.air_attempt.proofs.ClientIdle.{SendsCall}

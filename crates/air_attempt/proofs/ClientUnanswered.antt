@@ -2,29 +2,8 @@
 use Rattle.std.proofs.Common.{◌≡◌, ◌⊎◌, ℕ, ◌+◌, List, [], ◌∷◌, ◌++◌, Bool, true, false, None, Some, refl, inl, inr, sym}
 use Rattle.std.proofs.Common.{ap, ◌∙◌, subst}
 use Rattle.std.specs.Prelude.{if◌then◌else◌, ◌&&◌, ◌||◌}
-use Rattle.ax25_frames.specs.declared.control.Control.{Control}
-use Rattle.ax25_frames.specs.declared.control.Control.TheVariants.{Dm}
-use Rattle.ax25_frames.specs.FrameText.{FrameValue}
-use Rattle.ax25_link.specs.Calls.{Doing, DoesAll}
-use Rattle.ax25_link.specs.declared.state.Heard.{Heard}
-use Rattle.ax25_link.specs.declared.state.Heard.TheVariants.{Nothing, Opened, Reopened, Bytes, Closed}
-use Rattle.ax25_link.specs.declared.state.LinkState.{LinkState}
-use Rattle.ax25_link.specs.declared.state.LinkState.TheVariants.{Calling, Down}
 use Rattle.ax25_link.specs.declared.state.Why.TheVariants as why
-use Rattle.ax25_link.specs.Ends.{LinkEnd, free_octets, oldest, refuse}
-use Rattle.ax25_link.specs.Laws.{IsUnused}
-use Rattle.ax25_link.specs.LinkStep.{frame, heard_of_tick, tick}
-use Rattle.ax25_link.specs.Rows.{Outcome, calling_row, closing, entering, is_call, passed_over, replying, row}
-use Rattle.ax25_link.specs.Rows.{row_of_state, unless_oldest}
-use Rattle.ax25_link.specs.Sending.{Drains, IsQuiet}
-use Rattle.ax25_link.specs.Timer.{after_tick, is_down, is_spent, is_up, runs_out, told_of_tick, trying}
-use Rattle.ax25_link.specs.Window.{Window}
-use Rattle.client_notes.specs.Notes.{Lists}
-use Rattle.ftl0_client.specs.Attempt.Attempted.{Attempted}
-use Rattle.ftl0_client.specs.Attempt.Hearing.{after_told, packets_told, with_end}
-use Rattle.ftl0_client.specs.Attempt.Taking.{taking}
-use Rattle.ftl0_client.specs.Entries.{JobEntry, entries_behind, entries_due, entries_heard, entries_taken}
-use Rattle.ftl0_client.specs.Entries.{entries_ticked}
+use Rattle.air_attempt.proofs.Names.{Control, Dm, FrameValue, Doing, DoesAll, Heard, Nothing, Opened, Reopened, Bytes, Closed, LinkState, Calling, Down, LinkEnd, free_octets, oldest, refuse, IsUnused, frame, heard_of_tick, tick, Outcome, calling_row, closing, entering, is_call, passed_over, replying, row, row_of_state, unless_oldest, Drains, IsQuiet, after_tick, is_down, is_spent, is_up, runs_out, told_of_tick, trying, Window, Lists, Attempted, after_told, packets_told, with_end, taking, JobEntry, entries_behind, entries_due, entries_heard, entries_taken, entries_ticked}
 use Rattle.air_attempt.proofs.ClientCalling.{tick-unused}
 use Rattle.air_attempt.proofs.ClientIdle.{Idle, SendsCall, drains-nothing, idle-down, idle-quiet, quiet-idle, tick-down}
 use Rattle.air_attempt.proofs.ClientIdle.{tick-sends}

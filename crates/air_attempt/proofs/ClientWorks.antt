@@ -3,31 +3,10 @@
 use Rattle.std.proofs.Common.{◌≡◌, ◌⊎◌, ℕ, List, [], ◌∷◌, Bool, true, Option, None, Some, refl, inr, sym, ap, ◌∙◌}
 use Rattle.std.proofs.Common.{subst}
 use Rattle.std.specs.Prelude.{if◌then◌else◌, ◌&&◌}
-use Rattle.std.proofs.lemmas.Bool.{cond_both}
-use Rattle.ftl0_packets.specs.Items.{kind_of_item, texts}
-use Rattle.ftl0_packets.specs.Layout.{Item}
-use Rattle.ax25_link.specs.Calls.{after_hang_up, after_push}
-use Rattle.ax25_link.specs.declared.state.Heard.{Heard}
-use Rattle.ax25_link.specs.declared.state.Heard.TheVariants.{Nothing, Opened, Reopened, Bytes, Closed}
-use Rattle.ax25_link.specs.declared.state.LinkState.{LinkState}
-use Rattle.ax25_link.specs.declared.state.LinkState.TheVariants.{Calling, Up, Down}
-use Rattle.ax25_link.specs.declared.state.Why.{Why}
-use Rattle.ax25_link.specs.Ends.{LinkEnd, free_octets}
-use Rattle.ax25_link.specs.Timer.{is_up}
 use Rattle.packet_link.specs.Queuing.{fits}
-use Rattle.packet_link.proofs.Queuing.{filling-keeps}
-use Rattle.client_notes.specs.Laws.{after_all}
-use Rattle.client_notes.specs.Notes.{Lists}
-use Rattle.ftl0_job.specs.declared.ending.Ending.{Ending}
-use Rattle.ftl0_job.specs.declared.work.Work.{Work}
-use Rattle.ftl0_job.specs.Due.{DuePacket, due_by, next_due}
-use Rattle.ftl0_job.specs.Table.{JobState, job_after, job_row}
 use Rattle.ftl0_client.specs.declared.attempt.outcome.AttemptOutcome.TheVariants.{LinkDown}
-use Rattle.ftl0_client.specs.Attempt.Attempted.{Attempted, outcome_by, outcome_of}
-use Rattle.ftl0_client.specs.Attempt.Hearing.{after_told, closing, down_by, packets_told, with_end}
-use Rattle.ftl0_client.specs.Attempt.Laws.{StaysReached}
-use Rattle.ftl0_client.specs.Attempt.Settling.{after_due, is_all_free, is_later, parting_later, queuing, settled}
-use Rattle.ftl0_client.specs.Attempt.Taking.{after_replies, parting, replied, taking, taking_by, taking_one}
+use Rattle.ftl0_client.specs.Attempt.Hearing.{closing}
+use Rattle.air_attempt.proofs.Names.{cond_both, kind_of_item, texts, Item, after_hang_up, after_push, Heard, Nothing, Opened, Reopened, Bytes, Closed, LinkState, Calling, Up, Down, Why, LinkEnd, free_octets, is_up, filling-keeps, after_all, Lists, Ending, Work, DuePacket, due_by, next_due, JobState, job_after, job_row, Attempted, outcome_by, outcome_of, after_told, down_by, packets_told, with_end, StaysReached, after_due, is_all_free, is_later, parting_later, queuing, settled, after_replies, parting, replied, taking, taking_by, taking_one}
 use Rattle.air_attempt.proofs.ClientRows.{StateAs}
 
 abbrev pub CallsOrUp : LinkState → Type 0

@@ -1,14 +1,6 @@
 -- The connection of a caller before a step of the server and behind it.
 use Rattle.std.proofs.Common.{◌≡◌, inl, inr, ℕ, ◌<◌, List, length, Bool, true, false, None, Some, refl, sym, ap, ◌∙◌}
-use Rattle.std.specs.Prelude.{is_some, slice_get, slice_set}
-use Rattle.std.proofs.lemmas.Option.{same_Some}
-use Rattle.px_base.specs.CallSign.{CallSign}
-use Rattle.ax25_link.proofs.Offered.{slice_get-set_same}
-use Rattle.ftl0_server.specs.Connection.Connected.{Connected, caller_of}
-use Rattle.ftl0_server.specs.Server.{Server}
-use Rattle.ftl0_server.specs.Slots.{Slot, all_freed, connected, free, leaving, left_by, place_of}
-use Rattle.air_attempt.specs.Laws.{IsBetween, IsSeatedIn}
-use Rattle.air_attempt.specs.Transfers.{connection_of, has_session}
+use Rattle.air_attempt.proofs.Names.{is_some, slice_get, slice_set, same_Some, CallSign, slice_get-set_same, Connected, caller_of, Server, Slot, all_freed, connected, free, leaving, left_by, place_of, IsBetween, IsSeatedIn, connection_of, has_session}
 use Rattle.air_attempt.proofs.Places.{connection-is, connection-no, freed-seat, held, place-of-at, place-of-no}
 use Rattle.air_attempt.proofs.Places.{place-of-not, seat-freed}
 use Rattle.air_attempt.proofs.ListLemmas.{set-at}

@@ -1,18 +1,7 @@
 -- Which attempt a frame is of that the server hears.
 use Rattle.std.proofs.Common.{◌≡◌, ℕ, zero, suc, List, [], ◌∷◌, true, false, Option, None, Some, refl, sym, ap, subst}
 use Rattle.std.proofs.Common.{◌∙◌}
-use Rattle.std.specs.Prelude.{slice_get}
-use Rattle.std.specs.Option.{option_or}
-use Rattle.std.proofs.lemmas.Option.{same_Some}
-use Rattle.px_base.specs.CallSign.{CallSign}
-use Rattle.ax25_frames.specs.FrameText.{FrameValue}
-use Rattle.ax25_link.specs.Air.{IsAt, IsLawful, Transmission, control_of}
-use Rattle.ax25_link.specs.Rows.{is_call}
-use Rattle.ftl0_server.specs.Connection.Connected.{Connected}
-use Rattle.air_attempt.specs.Attempt.{Attempt, IsAnsweredBy, IsAttempt, IsOneCall, IsUnanswered}
-use Rattle.air_attempt.specs.Laws.{AreAttempts, CurrentLaw, DeliversToServer, IsNewestSession}
-use Rattle.air_attempt.specs.Party.{newest_side, to_server_delivered}
-use Rattle.air_attempt.specs.Sides.{ServerSide}
+use Rattle.air_attempt.proofs.Names.{slice_get, option_or, same_Some, CallSign, FrameValue, IsAt, IsLawful, Transmission, control_of, is_call, Connected, Attempt, IsAnsweredBy, IsAttempt, IsOneCall, IsUnanswered, AreAttempts, CurrentLaw, DeliversToServer, IsNewestSession, newest_side, to_server_delivered, ServerSide}
 
 -- The current attempt, and the others; and its transmission that comes.
 pub record ComesBy (attempts marked : List Attempt) (frame : FrameValue) : Type 0 where

@@ -1,23 +1,8 @@
 -- What the places of a server drain, place by place, and which of the frames are a caller's.
 use Rattle.std.proofs.Common.{◌≡◌, ◌≢◌, ℕ, zero, suc, List, [], ◌∷◌, ◌++◌, length, filter, Bool, Some, refl, sym, ap}
 use Rattle.std.proofs.Common.{ap₂, subst, ◌∙◌, append-nil}
-use Rattle.std.specs.Prelude.{slice_get, cond}
-use Rattle.std.specs.List.{AllByRecursion}
-use Rattle.std.proofs.lemmas.Bool.{cond_both}
 use Rattle.std.proofs.lemmas.List.Elements.{filter-append}
-use Rattle.std.proofs.lemmas.Option.{same_Some}
-use Rattle.px_base.specs.CallSign.{CallSign}
-use Rattle.ax25_frames.specs.FrameText.{FrameValue}
-use Rattle.ax25_link.specs.Ends.{LinkEnd}
-use Rattle.ax25_link.specs.Sending.{Drains}
-use Rattle.ax25_link.specs.Stations.{IsFrameOf, Stations, stations_of}
-use Rattle.ax25_link.specs.Window.{IsWindow, Window}
-use Rattle.ax25_link.proofs.Offered.{stations_law}
-use Rattle.ftl0_session.specs.Uploads.Session.{is_same_call}
-use Rattle.ftl0_session.proofs.uploads.UploadRows.{same_call-decides}
-use Rattle.ftl0_server.specs.Connection.Connected.{Connected, caller_of}
-use Rattle.ftl0_server.specs.Slots.{Slot, connected, free, leaving}
-use Rattle.server_laws.specs.Places.{SlotDrains, SlotsDrain}
+use Rattle.air_attempt.proofs.Names.{slice_get, cond, AllByRecursion, cond_both, same_Some, CallSign, FrameValue, LinkEnd, Drains, IsFrameOf, Stations, stations_of, IsWindow, Window, stations_law, is_same_call, same_call-decides, Connected, caller_of, Slot, connected, free, leaving, SlotDrains, SlotsDrain}
 use Rattle.air_attempt.proofs.Places.{held}
 
 -- ---- frames to a station

@@ -1,23 +1,8 @@
 -- What one side of an attempt took are the first of the packets that the other one said.
 use Rattle.std.proofs.Common.{◌≡◌, ℕ, List, ◌++◌, map, Ok, sym, ◌∙◌, ap, subst, append_assoc}
-use Rattle.std.specs.List.{AllByRecursion, concat}
-use Rattle.std.proofs.lemmas.List.{map-append}
-use Rattle.px_base.specs.CallSign.{CallSign}
-use Rattle.px_base.specs.Octets.{IsFront}
-use Rattle.ftl0_packets.specs.Items.{texts}
-use Rattle.ftl0_packets.specs.Layout.{Fits, Item, PacketValue}
-use Rattle.ftl0_packets.specs.Reading.{packets_of}
-use Rattle.ftl0_packets.proofs.SplitLemmas.{read_front}
-use Rattle.ax25_link.specs.Air.{Transmission}
-use Rattle.ax25_link.specs.Ends.{LinkEnd}
-use Rattle.ax25_link.specs.Linked.{AreLinked}
-use Rattle.ax25_link.proofs.Offered.{prefix_law}
 use Rattle.ftl0_server.specs.Entries as session
 use Rattle.ftl0_client.specs.Entries as job
-use Rattle.air_attempt.specs.Attempt.{Attempt, IsAnswered, IsAttempt, client_station, server_station}
-use Rattle.air_attempt.specs.Laws.{FrontLaw}
-use Rattle.air_attempt.specs.Lists.{AreFirstOf}
-use Rattle.air_attempt.specs.Sides.{ServerSide, said_by_client, said_by_server}
+use Rattle.air_attempt.proofs.Names.{AllByRecursion, concat, map-append, CallSign, IsFront, texts, Fits, Item, PacketValue, packets_of, read_front, Transmission, LinkEnd, AreLinked, prefix_law, Attempt, IsAnswered, IsAttempt, client_station, server_station, FrontLaw, AreFirstOf, ServerSide, said_by_client, said_by_server}
 use Rattle.air_attempt.proofs.ServerLink.{answered-by, taken-front}
 
 -- a front of the texts of packets that fit is read as the first of them

@@ -1,22 +1,9 @@
 -- What a session takes by a frame are the next packets that its client said.
 use Rattle.std.proofs.Common.{◌≡◌, ℕ, List, [], ◌∷◌, ◌++◌, Bool, true, Some, Ok, map, sym, subst, ◌∙◌}
-use Rattle.std.specs.List.{AllByRecursion}
-use Rattle.px_base.specs.CallSign.{CallSign}
-use Rattle.ax25_frames.specs.FrameText.{FrameValue}
-use Rattle.ax25_link.specs.Air.{IsLawful, Transmission, delivering, sending_all}
-use Rattle.ax25_link.specs.Ends.{LinkEnd}
-use Rattle.ax25_link.specs.Window.{Window}
-use Rattle.node.specs.Events.{hears}
-use Rattle.file_store.specs.Store.{Store}
-use Rattle.ftl0_session.specs.Lists.Lists.{CallerList}
-use Rattle.ftl0_server.specs.Connection.Connected.{Connected}
 use Rattle.ftl0_server.specs.Entries as session
-use Rattle.ftl0_server.specs.Entries.{HearingLaw, entries_heard}
+use Rattle.ftl0_server.specs.Entries.{entries_heard}
 use Rattle.server_laws.specs.Steps as server
-use Rattle.air_attempt.specs.Attempt.{Attempt, IsAttempt}
-use Rattle.air_attempt.specs.Laws.{AreAttempts, HeardFrontLaw}
-use Rattle.air_attempt.specs.Lists.{AreFirstOf}
-use Rattle.air_attempt.specs.Sides.{ServerSide, said_by_client}
+use Rattle.air_attempt.proofs.Names.{AllByRecursion, CallSign, FrameValue, IsLawful, Transmission, delivering, sending_all, LinkEnd, Window, hears, Store, CallerList, Connected, HearingLaw, Attempt, IsAttempt, AreAttempts, HeardFrontLaw, AreFirstOf, ServerSide, said_by_client}
 use Rattle.air_attempt.proofs.Current.{comes-by}
 use Rattle.air_attempt.proofs.Fronts.{took-first}
 use Rattle.air_attempt.proofs.ServerHears.{own-step}

@@ -1,16 +1,7 @@
 -- What a frame makes of the server's store and lists.
 use Rattle.std.proofs.Common.{◌≡◌, ◌⊎◌, inl, inr, ℕ, [], true, Option, None, Some, refl, ap, subst, ◌∙◌}
 use Rattle.std.specs.Prelude.{◌&&◌}
-use Rattle.ax25_frames.specs.FrameText.{FrameValue}
-use Rattle.ax25_link.specs.Rows.{is_call}
-use Rattle.node.specs.Events.{hears}
-use Rattle.ftl0_server.specs.Connection.Connected.{Connected}
-use Rattle.ftl0_server.specs.Connection.Hearing.{hearing}
-use Rattle.ftl0_server.specs.Entries.{HearingLaw}
-use Rattle.ftl0_server.specs.Server.{Server, ServerHappened, heard_at, hearing_at, hearing_by}
-use Rattle.ftl0_server.specs.ServerStep.{ServerStep, Stepped, happening}
-use Rattle.ftl0_server.specs.Slots.{first_empty, place_of}
-use Rattle.air_attempt.specs.Laws.{HeardLaw, IsBetween, IsSeatedIn, SessionHears, did_in}
+use Rattle.air_attempt.proofs.Names.{FrameValue, is_call, hears, Connected, hearing, HearingLaw, Server, ServerHappened, heard_at, hearing_at, hearing_by, ServerStep, Stepped, happening, first_empty, place_of, HeardLaw, IsBetween, IsSeatedIn, SessionHears, did_in}
 use Rattle.air_attempt.proofs.Connections.{last-connection}
 use Rattle.air_attempt.proofs.Places.{place-of-is}
 use Rattle.air_attempt.proofs.ServerHearing.{call-nothing}

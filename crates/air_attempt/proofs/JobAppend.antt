@@ -1,15 +1,6 @@
 -- What a job did, and then did more.
 use Rattle.std.proofs.Common.{◌≡◌, List, [], ◌∷◌, ◌++◌, ap, ◌∙◌, subst}
-use Rattle.std.proofs.lemmas.List.Concat.{flat_map-append}
-use Rattle.ftl0_packets.specs.Items.{kind_of_item, texts}
-use Rattle.ftl0_packets.specs.Layout.{PacketValue}
-use Rattle.ftl0_packets.proofs.SplitLemmas.{texts-append}
-use Rattle.client_notes.specs.Laws.{after_all}
-use Rattle.client_notes.specs.Notes.{Lists}
-use Rattle.ftl0_job.specs.Table.{JobState, job_after}
-use Rattle.ftl0_client.specs.Entries.{GoesBy, JobEntry, after_losing, items_in, items_of, lost, packets_said, passed}
-use Rattle.ftl0_client.specs.Entries.{queued, said_in, took}
-use Rattle.air_attempt.specs.Sides.{JobReaches}
+use Rattle.air_attempt.proofs.Names.{flat_map-append, kind_of_item, texts, PacketValue, texts-append, after_all, Lists, JobState, job_after, GoesBy, JobEntry, after_losing, items_in, items_of, lost, packets_said, passed, queued, said_in, took, JobReaches}
 
 -- what entries of an event make of a job
 pub reaches-by : (lists last : Lists) (doing now : JobState) (entries : List JobEntry)

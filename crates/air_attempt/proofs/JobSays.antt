@@ -1,39 +1,20 @@
 -- The fields of all packets that a job says have their ranges, where its work's have and the notes go with it.
 use Rattle.std.proofs.Common.{◌≡◌, ℕ, ◌^◌, ◌<◌, List, [], ◌∷◌, ◌++◌, length, drop, Option, None, Some, Ok, Err, refl}
 use Rattle.std.proofs.Common.{sym, ap, ◌∙◌, subst, arith, lit<}
-use Rattle.std.specs.Prelude.{◌==◌, nat_lt}
-use Rattle.std.specs.List.{AllByRecursion}
-use Rattle.std.specs.Option.{option_map}
-use Rattle.std.proofs.lemmas.Bool.{cond_both}
-use Rattle.std.proofs.lemmas.List.{length-take}
-use Rattle.std.proofs.lemmas.Option.{same_Some}
-use Rattle.px_base.specs.Octets.{IsOctets}
-use Rattle.ftl0_packets.specs.Items.{kind_of_item}
-use Rattle.ftl0_packets.specs.Layout.{Fits, Item, PacketValue, data_end, data_part, dir_short_cmd, dl_error_resp}
-use Rattle.ftl0_packets.specs.Layout.{login_resp, select_resp}
-use Rattle.ftl0_packets.proofs.OctetLemmas.{IsOctets-drop, IsOctets-take}
-use Rattle.client_notes.specs.Laws.{after_all}
-use Rattle.client_notes.specs.Notes.{Lists, got_of}
-use Rattle.ftl0_job.specs.declared.ending.Ending.{Ending}
+use Rattle.std.specs.Prelude.{◌==◌}
 use Rattle.ftl0_job.specs.declared.phases.DirectoryPhase.{DirectoryPhase}
 use Rattle.ftl0_job.specs.declared.phases.DirectoryPhase.TheVariants as directory_phase
 use Rattle.ftl0_job.specs.declared.phases.UploadPhase.{UploadPhase}
 use Rattle.ftl0_job.specs.declared.phases.UploadPhase.TheVariants as phase
-use Rattle.ftl0_job.specs.declared.work.Work.{Work}
 use Rattle.ftl0_job.specs.declared.work.Work.TheVariants as work
 use Rattle.ftl0_job.specs.Directory as directory
 use Rattle.ftl0_job.specs.Directory.{Directory, directory_row, is_empty_code, longest_listing}
 use Rattle.ftl0_job.specs.Download.{Download, download_row}
-use Rattle.ftl0_job.specs.Due.{DuePacket, due_by, due_from, due_in, in_job, in_work, most_data}
-use Rattle.ftl0_job.specs.JobState.{GoBy, GoWith, HasGot, HasTask, NotesGoWith, number_in}
 use Rattle.ftl0_job.specs.Row.{Row}
 use Rattle.ftl0_job.specs.Short.{are_short_headers}
-use Rattle.ftl0_job.specs.Table.{JobState, item_row, job_after, job_row}
 use Rattle.ftl0_job.specs.Upload.{Upload, upload_row}
 use Rattle.ftl0_job.proofs.Offered.{download-rows, job-in, stays-item, upload-rows}
-use Rattle.ftl0_client.specs.Entries.{GoesBy, JobEntry, after_losing, lost, passed, queued, said_in, took}
-use Rattle.air_attempt.specs.Laws.{WorkFits}
-use Rattle.air_attempt.specs.Sides.{IsJobRow, JobReaches}
+use Rattle.air_attempt.proofs.Names.{nat_lt, AllByRecursion, option_map, cond_both, length-take, same_Some, IsOctets, kind_of_item, Fits, Item, PacketValue, data_end, data_part, dir_short_cmd, dl_error_resp, login_resp, select_resp, IsOctets-drop, IsOctets-take, after_all, Lists, got_of, Ending, Work, DuePacket, due_by, due_from, due_in, in_job, in_work, most_data, GoBy, GoWith, HasGot, HasTask, NotesGoWith, number_in, JobState, item_row, job_after, job_row, GoesBy, JobEntry, after_losing, lost, passed, queued, said_in, took, WorkFits, IsJobRow, JobReaches}
 use Rattle.air_attempt.proofs.ListLemmas.{each-append}
 
 -- the replies of a row fit, where so many octets of a file at most were got, and its work does

@@ -2,19 +2,7 @@
 -- delivered.
 use Rattle.std.proofs.Common.{◌≡◌, ℕ, zero, suc, List, [], ◌∷◌, true, false, Option, None, Some, refl, sym, ap, subst}
 use Rattle.std.proofs.Common.{◌∙◌}
-use Rattle.std.specs.Prelude.{IfSome, slice_get}
-use Rattle.std.specs.List.{AllByRecursion}
-use Rattle.std.specs.Option.{option_map}
-use Rattle.px_base.specs.CallSign.{CallSign}
-use Rattle.ax25_frames.specs.FrameText.{FrameValue}
-use Rattle.ax25_link.specs.Air.{IsAt, Transmission, delivering}
-use Rattle.ax25_link.specs.Window.{IsWindow, Window}
-use Rattle.ax25_link.proofs.Offered.{prefix_law}
-use Rattle.air_attempt.specs.Attempt.{Attempt, IsAnswered, IsAnsweredBy, IsAttempt, IsEndOf, IsRefusal, client_station}
-use Rattle.air_attempt.specs.Attempt.{server_station}
-use Rattle.air_attempt.specs.Laws.{AreAttempts, DeliversToClient, DeliversToServer, LeftLaw}
-use Rattle.air_attempt.specs.Party.{AreOver, all_over, over, to_client_delivered, to_server_delivered}
-use Rattle.air_attempt.specs.Sides.{IsSession, ServerSide}
+use Rattle.air_attempt.proofs.Names.{IfSome, slice_get, AllByRecursion, option_map, CallSign, FrameValue, IsAt, Transmission, delivering, IsWindow, Window, prefix_law, Attempt, IsAnswered, IsAnsweredBy, IsAttempt, IsEndOf, IsRefusal, client_station, server_station, AreAttempts, DeliversToClient, DeliversToServer, LeftLaw, AreOver, all_over, over, to_client_delivered, to_server_delivered, IsSession, ServerSide}
 use Rattle.air_attempt.proofs.Current.{comes-by}
 use Rattle.air_attempt.proofs.Transmissions.{all-delivered, from-delivered, one-call-delivered}
 

@@ -43,3 +43,4 @@ mod SessionTicks
 mod Sitting
 mod TickedAttempts
 mod Transmissions
+mod Names

@@ -1,30 +1,9 @@
 -- What the layer above a link's end sees of it: what was pushed, what came, and the state.
 use Rattle.std.proofs.Common.{◌≡◌, ℕ, ◌==◌, List, [], ◌∷◌, ◌++◌, Bool, true, false, Option, None, Some, refl, sym, ap}
 use Rattle.std.proofs.Common.{subst, ◌∙◌}
-use Rattle.std.specs.Prelude.{if◌then◌else◌, ◌&&◌, nat_lt, ⊤}
-use Rattle.std.proofs.lemmas.Bool.{cond_both}
-use Rattle.std.proofs.lemmas.Option.{same_Some}
-use Rattle.ax25_frames.specs.declared.control.Control.{Control}
-use Rattle.ax25_frames.specs.declared.control.Control.TheVariants.{I, Rr, Rnr, Rej, Sabm, Disc, Dm, Ua, Frmr, Ui}
-use Rattle.ax25_frames.specs.FrameText.{FrameValue}
-use Rattle.ax25_link.specs.Acknowledging.{Meaning, applying, bad, good, is_bad, is_good, meaning_of, stale}
-use Rattle.ax25_link.specs.Acknowledging.{with_timer_anew}
-use Rattle.ax25_link.specs.Calls.{Doing, DoesAll, abandon, after_doing, hang_up, push}
-use Rattle.ax25_link.specs.declared.state.Heard.{Heard}
-use Rattle.ax25_link.specs.declared.state.Heard.TheVariants.{Nothing, Opened, Reopened, Bytes, Closed}
-use Rattle.ax25_link.specs.declared.state.LinkState.{LinkState}
-use Rattle.ax25_link.specs.declared.state.LinkState.TheVariants.{Up}
-use Rattle.ax25_link.specs.declared.state.Why.{Why}
+use Rattle.std.specs.Prelude.{if◌then◌else◌, ◌&&◌}
 use Rattle.ax25_link.specs.declared.state.Why.TheVariants as why
-use Rattle.ax25_link.specs.Ends.{Farewell, LinkEnd, Reply, outstanding, ready}
-use Rattle.ax25_link.specs.Frames.{receive_number}
-use Rattle.ax25_link.specs.Rows.{Outcome, accepting, information_row, is_call, numbered_row, out_of_sequence, outcome}
-use Rattle.ax25_link.specs.Rows.{passed_over, refusing, replying, row, row_of_state, sending_again, supervisory_row}
-use Rattle.ax25_link.specs.Rows.{up_row, with_busy}
-use Rattle.ax25_link.specs.Sending.{Drains, IsQuiet, Sending, has_new, last_sending, later_sending, next_sending}
-use Rattle.ax25_link.specs.Sending.{sending_after, sends_again, sends_farewell, sends_new, sends_reply, with_piece}
-use Rattle.ax25_link.specs.Window.{Window}
-use Rattle.ax25_link.proofs.Offered.{acknowledging-keeps}
+use Rattle.air_attempt.proofs.Names.{nat_lt, ⊤, cond_both, same_Some, Control, I, Rr, Rnr, Rej, Sabm, Disc, Dm, Ua, Frmr, Ui, FrameValue, Meaning, applying, bad, good, is_bad, is_good, meaning_of, stale, with_timer_anew, Doing, DoesAll, abandon, after_doing, hang_up, push, Heard, Nothing, Opened, Reopened, Bytes, Closed, LinkState, Up, Why, Farewell, LinkEnd, Reply, outstanding, ready, receive_number, Outcome, accepting, information_row, is_call, numbered_row, out_of_sequence, outcome, passed_over, refusing, replying, row, row_of_state, sending_again, supervisory_row, up_row, with_busy, Drains, IsQuiet, Sending, has_new, last_sending, later_sending, next_sending, sending_after, sends_again, sends_farewell, sends_new, sends_reply, with_piece, Window, acknowledging-keeps}
 
 -- what was pushed and what came stay, and so does the state
 pub record KeepsStreams (old new : LinkEnd) : Type 0 where

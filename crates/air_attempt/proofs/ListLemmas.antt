@@ -1,11 +1,8 @@
 -- What is so of each of a list, or of one of it: of those at hand, and of a changed list of them.
 use Rattle.std.proofs.Common.{◌≡◌, ◌⊎◌, ℕ, zero, suc, List, [], ◌∷◌, ◌++◌, map, refl, sym, subst, Option, None, Some}
 use Rattle.std.proofs.Common.{inl, inr, ap, ◌∙◌, append-nil, arith}
-use Rattle.std.specs.Prelude.{IfSome, slice_get, slice_set}
-use Rattle.std.specs.List.{AllByRecursion, flat_map}
-use Rattle.std.proofs.lemmas.Option.{same_Some}
 use Rattle.std.proofs.lemmas.Grind.{flat_map-append}
-use Rattle.air_attempt.specs.Lists.{Has, OneIs}
+use Rattle.air_attempt.proofs.Names.{IfSome, slice_get, slice_set, AllByRecursion, flat_map, same_Some, Has, OneIs}
 
 -- ---- each of a list
 

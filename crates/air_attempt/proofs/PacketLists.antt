@@ -1,17 +1,8 @@
 -- Packets, their texts and their octets, one list behind another.
 use Rattle.std.proofs.Common.{◌≡◌, ℕ, ◌+◌, ◌*◌, ◌/◌, ◌%◌, ◌<◌, List, [], ◌∷◌, ◌++◌, length, ◌∙◌, ap, subst, arith, lit<}
 use Rattle.std.proofs.Common.{refl}
-use Rattle.std.specs.List.{AllByRecursion, concat}
 use Rattle.px_base.specs.Numbers.{le16_octets, le32_octets}
-use Rattle.px_base.specs.Octets.{IsFront, IsOctets}
-use Rattle.ftl0_packets.specs.Items.{texts}
-use Rattle.ftl0_packets.specs.Layout.{Fits, PacketValue, data_part, dir_long_cmd, dir_short_cmd, dl_error_resp}
-use Rattle.ftl0_packets.specs.Layout.{download_cmd, information, kind_of, login_resp, packet_text, select_cmd}
-use Rattle.ftl0_packets.specs.Layout.{select_resp, ul_error_resp, ul_go_resp, ul_nak_resp, upload_cmd}
-use Rattle.ftl0_packets.specs.Reading.{packets_of, rest_of}
-use Rattle.ftl0_packets.proofs.OctetLemmas.{IsOctets-append, IsOctets-cons, IsOctets-nil}
-use Rattle.ftl0_packets.proofs.SplitLemmas.{octets_front, read-append}
-use Rattle.ax25_link.proofs.Offered.{concat-append_one}
+use Rattle.air_attempt.proofs.Names.{AllByRecursion, concat, IsFront, IsOctets, texts, Fits, PacketValue, data_part, dir_long_cmd, dir_short_cmd, dl_error_resp, download_cmd, information, kind_of, login_resp, packet_text, select_cmd, select_resp, ul_error_resp, ul_go_resp, ul_nak_resp, upload_cmd, packets_of, rest_of, IsOctets-append, IsOctets-cons, IsOctets-nil, octets_front, read-append, concat-append_one}
 
 -- ---- no octets
 

@@ -1,21 +1,8 @@
 -- The places of a server: which of them has a caller's connection.
 use Rattle.std.proofs.Common.{◌≡◌, ℕ, zero, suc, ◌<◌, ◌≤◌, List, [], ◌∷◌, length, get_or, Bool, true, false, Option}
 use Rattle.std.proofs.Common.{None, Some, refl, sym, ap, ◌∙◌, arith}
-use Rattle.std.specs.Prelude.{cond, find, is_some, slice_get}
-use Rattle.std.specs.List.{position, position_or_len}
-use Rattle.std.specs.Option.{option_and_then, option_map}
-use Rattle.std.proofs.lemmas.Grind.{common_steps}
-use Rattle.std.proofs.lemmas.Bool.{cond_both}
-use Rattle.std.proofs.lemmas.List.Quantifiers.{position-Some}
 use Rattle.std.proofs.lemmas.List.Sums.{fails_before_first}
-use Rattle.std.proofs.lemmas.Option.{get_or_from_slice_get, same_Some, slice_get-get_or, slice_get-map}
-use Rattle.std.proofs.lemmas.Option.{slice_get_within}
-use Rattle.px_base.specs.CallSign.{CallSign}
-use Rattle.ftl0_session.specs.Uploads.Session.{is_same_call}
-use Rattle.ftl0_session.proofs.uploads.UploadRows.{same_call-decides}
-use Rattle.ftl0_server.specs.Connection.Connected.{Connected, caller_of}
-use Rattle.ftl0_server.specs.Slots.{Slot, all_freed, connected, free, freed, is_callers, leaving, place_of}
-use Rattle.air_attempt.specs.Transfers.{connection_at}
+use Rattle.air_attempt.proofs.Names.{cond, find, is_some, slice_get, position, position_or_len, option_and_then, option_map, common_steps, cond_both, position-Some, get_or_from_slice_get, same_Some, slice_get-get_or, slice_get-map, slice_get_within, CallSign, is_same_call, same_call-decides, Connected, caller_of, Slot, all_freed, connected, free, freed, is_callers, leaving, place_of, connection_at}
 
 -- ---- the first that passes
 

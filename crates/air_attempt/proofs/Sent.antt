@@ -1,17 +1,7 @@
 -- What a station of an attempt sends at an event: whether a SABM is among the frames, and whose they are.
 use Rattle.std.proofs.Common.{◌≡◌, List, [], ◌∷◌, Bool, true, false, refl, ap, ◌∙◌, subst}
 use Rattle.std.specs.Prelude.{◌||◌}
-use Rattle.std.specs.List.{AllByRecursion}
-use Rattle.px_base.specs.CallSign.{CallSign}
-use Rattle.ax25_frames.specs.FrameText.{FrameValue}
-use Rattle.ax25_link.specs.Air.{Transmission, sending_all}
-use Rattle.ax25_link.specs.Ends.{LinkEnd}
-use Rattle.ax25_link.specs.Laws.{HasNoCall}
-use Rattle.ax25_link.specs.Rows.{is_call}
-use Rattle.ax25_link.specs.Stations.{IsFrameOf, SendsOwn, Stations, stations_of}
-use Rattle.ax25_link.specs.Window.{IsWindow, Window}
-use Rattle.air_attempt.specs.Attempt.{AreFromTo, IsEndOf}
-use Rattle.air_attempt.specs.Transfers.{has_call}
+use Rattle.air_attempt.proofs.Names.{AllByRecursion, CallSign, FrameValue, Transmission, sending_all, LinkEnd, HasNoCall, is_call, IsFrameOf, SendsOwn, Stations, stations_of, IsWindow, Window, AreFromTo, IsEndOf, has_call}
 use Rattle.air_attempt.proofs.Transmissions.{from-sent}
 
 -- ---- whether a SABM is among them

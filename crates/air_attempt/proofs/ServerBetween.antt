@@ -1,17 +1,7 @@
 -- Between events a server is as it was before, but for the connections that a step changed.
 use Rattle.std.proofs.Common.{◌≡◌, ◌≢◌, ◌⊎◌, inl, inr, ℕ, ◌<◌, List, [], length, Some, refl, sym, ap, subst, ◌∙◌}
-use Rattle.std.specs.Prelude.{slice_get, slice_set}
-use Rattle.std.proofs.lemmas.List.{length-map, length-set}
-use Rattle.px_base.specs.CallSign.{CallSign}
-use Rattle.ax25_link.specs.declared.state.LinkState.TheVariants.{Up}
-use Rattle.ax25_link.specs.Window.{IsWindow, Window}
-use Rattle.node.specs.Events.{NodeEvent}
-use Rattle.ftl0_server.specs.Connection.Connected.{Connected, caller_of}
-use Rattle.ftl0_server.specs.Server.{Server}
-use Rattle.ftl0_server.specs.ServerStep.{ServerStep, Stepped}
-use Rattle.ftl0_server.specs.Slots.{Slot, all_freed, connected, leaving}
 use Rattle.server_laws.specs.Steps as server
-use Rattle.air_attempt.specs.Laws.{IsBetween, IsKnown, IsSeatedIn}
+use Rattle.air_attempt.proofs.Names.{slice_get, slice_set, length-map, length-set, CallSign, Up, IsWindow, Window, NodeEvent, Connected, caller_of, Server, ServerStep, Stepped, Slot, all_freed, connected, leaving, IsBetween, IsKnown, IsSeatedIn}
 use Rattle.air_attempt.proofs.Places.{freed-none, freed-seat}
 use Rattle.air_attempt.proofs.ListLemmas.{set-at}
 

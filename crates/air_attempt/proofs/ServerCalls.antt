@@ -1,27 +1,8 @@
 -- What becomes of a client's attempts when the server answers its SABM.
 use Rattle.std.proofs.Common.{◌≡◌, ℕ, ◌<◌, ◌^◌, List, [], ◌∷◌, length, Bool, true, false, Option, None, Some, refl, sym}
 use Rattle.std.proofs.Common.{ap, ap₂, subst, ◌∙◌}
-use Rattle.std.specs.Prelude.{slice_set}
-use Rattle.std.specs.List.{AllByRecursion}
-use Rattle.std.specs.Option.{option_or}
-use Rattle.px_base.specs.CallSign.{CallSign}
-use Rattle.ax25_frames.specs.FrameText.{FrameValue}
-use Rattle.ax25_link.specs.Air.{IsLawful, Transmission}
-use Rattle.ax25_link.specs.Rows.{is_call}
-use Rattle.ax25_link.specs.Window.{Window}
-use Rattle.node.specs.Events.{hears}
-use Rattle.ftl0_session.specs.Lists.Lists.{has_left}
-use Rattle.ftl0_server.specs.Connection.Connected.{Connected, answering, caller_of}
-use Rattle.ftl0_server.specs.Connection.Hearing.{Happened, with_end}
-use Rattle.ftl0_server.specs.Entries.{HearingLaw}
-use Rattle.ftl0_server.specs.Server.{Server}
-use Rattle.ftl0_server.specs.ServerStep.{ServerStep, Stepped}
-use Rattle.ftl0_server.specs.Slots.{Slot, all_freed}
-use Rattle.air_attempt.specs.Attempt.{Attempt, IsEndOf}
-use Rattle.air_attempt.specs.Laws.{AreAttempts, Calls, IsBetween, IsNewestSession, did_in}
-use Rattle.air_attempt.specs.Party.{all_over, newest_side, server_sends, to_server_delivered}
-use Rattle.air_attempt.specs.Sides.{ServerSide}
-use Rattle.air_attempt.specs.Transfers.{ServerDid, after_hearing, connection_of, heard_by}
+use Rattle.ftl0_server.specs.Connection.Hearing.{with_end}
+use Rattle.air_attempt.proofs.Names.{slice_set, AllByRecursion, option_or, CallSign, FrameValue, IsLawful, Transmission, is_call, Window, hears, has_left, Connected, answering, caller_of, Happened, HearingLaw, Server, ServerStep, Stepped, Slot, all_freed, Attempt, IsEndOf, AreAttempts, Calls, IsBetween, IsNewestSession, did_in, all_over, newest_side, server_sends, to_server_delivered, ServerSide, ServerDid, after_hearing, connection_of, heard_by}
 use Rattle.air_attempt.proofs.Connections.{IsBehind, last-connection, new-seat, none-over, place-behind, session-up}
 use Rattle.air_attempt.proofs.Left.{all-attempts-over, are-over, over-windows}
 use Rattle.air_attempt.proofs.ServerBetween.{Resits}

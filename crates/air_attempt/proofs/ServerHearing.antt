@@ -2,34 +2,12 @@
 -- up.
 use Rattle.std.proofs.Common.{◌≡◌, ℕ, List, [], Bool, true, false, refl, sym, ap, subst, ◌∙◌}
 use Rattle.std.specs.Prelude.{if◌then◌else◌}
-use Rattle.std.proofs.lemmas.Bool.{cond_both}
-use Rattle.ax25_frames.specs.declared.control.Control.{Control}
-use Rattle.ax25_frames.specs.declared.control.Control.TheVariants.{I, Rr, Rnr, Rej, Sabm, Disc, Dm, Ua, Frmr, Ui}
-use Rattle.ax25_frames.specs.FrameText.{FrameValue}
-use Rattle.ax25_link.specs.declared.state.LinkState.{LinkState}
-use Rattle.ax25_link.specs.declared.state.LinkState.TheVariants.{Up}
-use Rattle.ax25_link.specs.declared.state.Heard.TheVariants.{Reopened}
-use Rattle.ax25_link.specs.Ends.{LinkEnd, answering_end, free_octets}
 use Rattle.ax25_link.specs.LinkStep as step
-use Rattle.ax25_link.specs.Rows.{Outcome, after_frame, called_again, heard_of, is_call, outcome, passed_over, row}
-use Rattle.ax25_link.specs.Rows.{row_of_state, up_row}
-use Rattle.ax25_link.specs.Sending.{Drains}
-use Rattle.ax25_link.specs.Stations.{Stations}
-use Rattle.ax25_link.specs.Window.{IsWindow, Window}
-use Rattle.ax25_link.proofs.Offered.{stations_law}
-use Rattle.packet_link.proofs.Queuing.{filling-keeps, filling-none}
+use Rattle.ax25_link.specs.Rows.{called_again}
 use Rattle.file_store.specs.Command.{after_all}
-use Rattle.file_store.specs.Store.{Store}
-use Rattle.ftl0_session.specs.Lists.Lists.{CallerList, has_left}
-use Rattle.ftl0_session.specs.Table.{command, due_at}
-use Rattle.ftl0_server.specs.Connection.Connected.{Connected, beginning, caller_of, greeted}
-use Rattle.ftl0_server.specs.Connection.Hearing.{Happened, hearing, parts_as, parts_of_frame, progressed, rest_as}
 use Rattle.ftl0_server.specs.Connection.Hearing.{with_end}
 use Rattle.ftl0_server.specs.Connection.Taking.{Progress, after_due, goes_on, queued, queuing, resting}
-use Rattle.ftl0_server.specs.Entries.{HearingLaw}
-use Rattle.ftl0_server.specs.Slots.{Slot, connected, left_by}
-use Rattle.server_laws.specs.Places.{SlotDrains}
-use Rattle.server_laws.proofs.Offered.{taken-told, up-behind}
+use Rattle.air_attempt.proofs.Names.{cond_both, Control, I, Rr, Rnr, Rej, Sabm, Disc, Dm, Ua, Frmr, Ui, FrameValue, LinkState, Up, Reopened, LinkEnd, answering_end, free_octets, Outcome, after_frame, heard_of, is_call, outcome, passed_over, row, row_of_state, up_row, Drains, Stations, IsWindow, Window, stations_law, filling-keeps, filling-none, Store, CallerList, has_left, command, due_at, Connected, beginning, caller_of, greeted, Happened, hearing, parts_as, parts_of_frame, progressed, rest_as, HearingLaw, Slot, connected, left_by, SlotDrains, taken-told, up-behind}
 
 -- ---- a SABM
 

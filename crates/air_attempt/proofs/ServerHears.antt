@@ -1,28 +1,10 @@
 -- What becomes of a client's attempts when its session hears a frame of it that is no SABM.
 use Rattle.std.proofs.Common.{◌≡◌, ℕ, List, [], ◌∷◌, Bool, true, false, Option, None, Some, refl, sym, ap, ap₂, subst}
 use Rattle.std.proofs.Common.{◌∙◌}
-use Rattle.std.specs.Prelude.{IfSome, MatchOption}
-use Rattle.std.specs.List.{AllByRecursion}
-use Rattle.std.specs.Option.{option_map_or, option_or}
-use Rattle.px_base.specs.CallSign.{CallSign}
-use Rattle.ax25_frames.specs.FrameText.{FrameValue}
-use Rattle.ftl0_packets.specs.Layout.{Fits}
-use Rattle.ax25_link.specs.Air.{IsLawful, Transmission}
-use Rattle.ax25_link.specs.Rows.{is_call}
-use Rattle.ax25_link.specs.Window.{Window}
-use Rattle.node.specs.Events.{hears}
-use Rattle.ftl0_server.specs.Connection.Connected.{Connected, caller_of}
-use Rattle.ftl0_server.specs.Connection.Hearing.{Happened, hearing, with_end}
+use Rattle.ftl0_server.specs.Connection.Hearing.{with_end}
 use Rattle.ftl0_server.specs.Entries as session
-use Rattle.ftl0_server.specs.Entries.{HearingLaw, SessionEntry, entries_heard}
-use Rattle.ftl0_server.specs.Server.{Server}
-use Rattle.ftl0_server.specs.ServerStep.{ServerStep, Stepped}
-use Rattle.ftl0_server.specs.Slots.{place_of}
-use Rattle.air_attempt.specs.Attempt.{Attempt}
-use Rattle.air_attempt.specs.Laws.{AreAttempts, Calls, IsBetween, IsSeatedIn, SaysFit, did_in}
-use Rattle.air_attempt.specs.Party.{AreOver, OnlyNewestUp, newest_side, to_server_delivered, with_answered}
-use Rattle.air_attempt.specs.Sides.{ServerSide}
-use Rattle.air_attempt.specs.Transfers.{ServerDid, after_hearing, connection_of, has_session, heard_by, served}
+use Rattle.ftl0_server.specs.Entries.{entries_heard}
+use Rattle.air_attempt.proofs.Names.{IfSome, MatchOption, AllByRecursion, option_map_or, option_or, CallSign, FrameValue, Fits, IsLawful, Transmission, is_call, Window, hears, Connected, caller_of, Happened, hearing, HearingLaw, SessionEntry, Server, ServerStep, Stepped, place_of, Attempt, AreAttempts, Calls, IsBetween, IsSeatedIn, SaysFit, did_in, AreOver, OnlyNewestUp, newest_side, to_server_delivered, with_answered, ServerSide, ServerDid, after_hearing, connection_of, has_session, heard_by, served}
 use Rattle.air_attempt.proofs.Connections.{IsBehind, last-connection, new-seat, none-over, old-connection, place-behind}
 use Rattle.air_attempt.proofs.Connections.{session-up, up-goes}
 use Rattle.air_attempt.proofs.Places.{place-of-is, same-seat}

@@ -1,25 +1,7 @@
 -- A session's end of the link makes its step: the attempt goes on.
 use Rattle.std.proofs.Common.{◌≡◌, ℕ, List, false, Option, None, Some, sym, subst, ◌∙◌}
-use Rattle.std.specs.Prelude.{IfSome}
-use Rattle.std.specs.List.{concat}
-use Rattle.px_base.specs.CallSign.{CallSign}
-use Rattle.px_base.specs.Octets.{IsFront, IsOctets}
-use Rattle.ax25_frames.specs.FrameText.{FrameValue}
-use Rattle.ftl0_packets.specs.Items.{texts}
-use Rattle.ax25_link.specs.Air.{IsLawful, Transmission, delivering, sending_all}
-use Rattle.ax25_link.specs.Calls.{Doing}
-use Rattle.ax25_link.specs.declared.state.Heard.{Heard}
-use Rattle.ax25_link.specs.declared.state.LinkState.TheVariants.{Calling, Up}
-use Rattle.ax25_link.specs.Ends.{LinkEnd}
-use Rattle.ax25_link.specs.LinkStep.{Coming, LinkStep}
 use Rattle.ax25_link.specs.LinkStep as step
-use Rattle.ax25_link.specs.Linked.{AreLinked}
-use Rattle.ax25_link.specs.Sending.{IsQuiet}
-use Rattle.ax25_link.specs.Stations.{SendsOwn}
-use Rattle.ax25_link.proofs.Offered.{prefix_law}
-use Rattle.air_attempt.specs.Attempt.{AreFromTo, Attempt, IsAnswered, IsAnsweredBy, IsAttempt, IsEndOf, IsOneCall}
-use Rattle.air_attempt.specs.Attempt.{client_station, server_station}
-use Rattle.air_attempt.specs.Sides.{IsSession, ServerSide, said_by_client}
+use Rattle.air_attempt.proofs.Names.{IfSome, concat, CallSign, IsFront, IsOctets, FrameValue, texts, IsLawful, Transmission, delivering, sending_all, Doing, Heard, Calling, Up, LinkEnd, Coming, LinkStep, AreLinked, IsQuiet, SendsOwn, prefix_law, AreFromTo, Attempt, IsAnswered, IsAnsweredBy, IsAttempt, IsEndOf, IsOneCall, client_station, server_station, IsSession, ServerSide, said_by_client}
 use Rattle.air_attempt.proofs.PacketLists.{octets-of_front}
 use Rattle.air_attempt.proofs.Sent.{stays-of}
 

@@ -1,28 +1,7 @@
 -- A SABM of a client is answered: the current attempt has a session.
 use Rattle.std.proofs.Common.{◌≡◌, ℕ, ◌<◌, ◌≤◌, ◌^◌, List, [], ◌∷◌, length, Bool, true, false, Option, None, Some, refl}
 use Rattle.std.proofs.Common.{sym, ap, subst, ◌∙◌, append-nil, arith}
-use Rattle.std.specs.List.{AllByRecursion, concat}
-use Rattle.std.proofs.lemmas.List.{take_all}
-use Rattle.px_base.specs.CallSign.{CallSign}
-use Rattle.ax25_frames.specs.declared.control.Control.{Control}
-use Rattle.ax25_frames.specs.declared.control.Control.TheVariants.{I, Rr, Rnr, Rej, Sabm, Disc, Dm, Ua, Frmr, Ui}
-use Rattle.ax25_frames.specs.FrameText.{FrameValue}
-use Rattle.ftl0_packets.specs.Layout.{packet_text}
-use Rattle.ftl0_packets.specs.Reading.{packets_of, rest_of}
-use Rattle.ax25_link.specs.Air.{IsLawful, Transmission, control_of, delivering, is_numbered, sending_all}
-use Rattle.ax25_link.specs.Calls.{push}
-use Rattle.ax25_link.specs.Ends.{LinkEnd, answering_end, free_octets}
-use Rattle.ax25_link.specs.Laws.{IsOpening}
-use Rattle.ax25_link.specs.Linked.{AreLinked, Station}
-use Rattle.ax25_link.specs.Rows.{is_call}
-use Rattle.ax25_link.specs.Sending.{Drains}
-use Rattle.ax25_link.specs.Stations.{SendsOwn, Stations}
-use Rattle.ax25_link.specs.Window.{Window}
-use Rattle.ax25_link.proofs.Offered.{prefix_law, stations_law}
-use Rattle.ftl0_session.specs.Table.{command, flags, greeting}
-use Rattle.ftl0_server.specs.Connection.Connected.{greeted}
-use Rattle.air_attempt.specs.Attempt.{Attempt, IsAnsweredBy, IsAttempt, IsRefusal, IsUnanswered}
-use Rattle.air_attempt.specs.Sides.{IsSession, ServerSide}
+use Rattle.air_attempt.proofs.Names.{AllByRecursion, concat, take_all, CallSign, Control, I, Rr, Rnr, Rej, Sabm, Disc, Dm, Ua, Frmr, Ui, FrameValue, packet_text, packets_of, rest_of, IsLawful, Transmission, control_of, delivering, is_numbered, sending_all, push, LinkEnd, answering_end, free_octets, IsOpening, AreLinked, Station, is_call, Drains, SendsOwn, Stations, Window, prefix_law, stations_law, command, flags, greeting, greeted, Attempt, IsAnsweredBy, IsAttempt, IsRefusal, IsUnanswered, IsSession, ServerSide}
 use Rattle.air_attempt.proofs.Current.{at-alone}
 use Rattle.air_attempt.proofs.Left.{delivered-alone}
 use Rattle.air_attempt.proofs.LinkKeeps.{drains-keep, drains-quiet}

@@ -1,30 +1,9 @@
 -- A frame of a client comes to its session: the current attempt goes on.
 use Rattle.std.proofs.Common.{◌≡◌, ℕ, List, [], Bool, true, false, Some, refl, sym, ap, subst}
-use Rattle.std.specs.List.{AllByRecursion, concat}
-use Rattle.px_base.specs.CallSign.{CallSign}
-use Rattle.px_base.specs.Octets.{IsOctets}
-use Rattle.ax25_frames.specs.FrameText.{FrameValue}
-use Rattle.ftl0_packets.specs.Layout.{Fits}
-use Rattle.ax25_link.specs.Air.{IsLawful, Transmission, delivering, sending_all}
-use Rattle.ax25_link.specs.declared.state.LinkState.TheVariants.{Up}
-use Rattle.ax25_link.specs.Ends.{LinkEnd}
-use Rattle.ax25_link.specs.LinkStep.{LinkStep}
 use Rattle.ax25_link.specs.LinkStep as step
-use Rattle.ax25_link.specs.Linked.{AreLinked}
-use Rattle.ax25_link.specs.Rows.{heard_of, is_call}
-use Rattle.ax25_link.specs.Sending.{Drains, IsQuiet}
-use Rattle.ax25_link.specs.Stations.{SendsOwn}
-use Rattle.ax25_link.specs.Window.{Window}
-use Rattle.ax25_link.proofs.Offered.{stations_law}
-use Rattle.file_store.specs.Store.{Store}
-use Rattle.ftl0_session.specs.Lists.Lists.{CallerList}
-use Rattle.ftl0_session.specs.Run.{session_over}
-use Rattle.ftl0_server.specs.Connection.Connected.{Connected, caller_of}
-use Rattle.ftl0_server.specs.Connection.Hearing.{hearing}
 use Rattle.ftl0_server.specs.Entries as session
-use Rattle.ftl0_server.specs.Entries.{GoesBy, HeardBy, SessionEntry, entries_heard, session_after}
-use Rattle.air_attempt.specs.Attempt.{Attempt, IsAttempt}
-use Rattle.air_attempt.specs.Sides.{ServerSide}
+use Rattle.ftl0_server.specs.Entries.{GoesBy, entries_heard}
+use Rattle.air_attempt.proofs.Names.{AllByRecursion, concat, CallSign, IsOctets, FrameValue, Fits, IsLawful, Transmission, delivering, sending_all, Up, LinkEnd, LinkStep, AreLinked, heard_of, is_call, Drains, IsQuiet, SendsOwn, Window, stations_law, Store, CallerList, session_over, Connected, caller_of, hearing, HeardBy, SessionEntry, session_after, Attempt, IsAttempt, ServerSide}
 use Rattle.air_attempt.proofs.LinkKeeps.{drains-quiet}
 use Rattle.air_attempt.proofs.ServerLink.{answered-by, attempt-goes-on, gone, link-hears, taken-octets}
 use Rattle.air_attempt.proofs.SessionAppend.{HearsOn, gone_by, session-goes-on}

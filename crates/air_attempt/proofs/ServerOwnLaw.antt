@@ -1,16 +1,7 @@
 -- What the server makes of a frame: of the attempts of the client whose frame it is, and of all others.
 use Rattle.std.proofs.Common.{◌≡◌, ◌≢◌, ℕ, List, [], ◌∷◌, Bool, true, false, refl, sym, ap, subst, ◌∙◌}
-use Rattle.px_base.specs.CallSign.{CallSign}
-use Rattle.ax25_frames.specs.FrameText.{FrameValue}
-use Rattle.ax25_link.specs.Rows.{is_call}
-use Rattle.node.specs.Events.{hears}
-use Rattle.ftl0_server.specs.Entries.{HearingLaw}
-use Rattle.ftl0_server.specs.Server.{Server}
-use Rattle.ftl0_server.specs.ServerStep.{ServerStep, Stepped}
 use Rattle.server_laws.specs.Steps as server
-use Rattle.air_attempt.specs.Attempt.{Attempt}
-use Rattle.air_attempt.specs.Laws.{Calls, IsBetween, SaysFit, ServerHearsLaw, did_in}
-use Rattle.air_attempt.specs.Transfers.{after_hearing}
+use Rattle.air_attempt.proofs.Names.{CallSign, FrameValue, is_call, hears, HearingLaw, Server, ServerStep, Stepped, Attempt, Calls, IsBetween, SaysFit, ServerHearsLaw, did_in, after_hearing}
 use Rattle.air_attempt.proofs.Current.{ComesBy, comes-by, newest-served}
 use Rattle.air_attempt.proofs.ServerCalls.{opened-at, opened-calls, reopened-at}
 use Rattle.air_attempt.proofs.ServerHears.{heard-calls}

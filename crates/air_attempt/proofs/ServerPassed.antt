@@ -2,28 +2,7 @@
 use Rattle.std.proofs.Common.{◌≡◌, ◌⊎◌, inl, inr, ℕ, List, [], ◌∷◌, Bool, true, false, Option, None, Some, refl, sym}
 use Rattle.std.proofs.Common.{ap, ap₂, subst, ◌∙◌, arith}
 use Rattle.std.specs.Prelude.{◌&&◌}
-use Rattle.std.specs.List.{AllByRecursion}
-use Rattle.px_base.specs.CallSign.{CallSign}
-use Rattle.ax25_frames.specs.FrameText.{FrameValue}
-use Rattle.ax25_link.specs.Air.{IsAt, Transmission, fresh, is_numbered}
-use Rattle.ax25_link.specs.Laws.{AreAnswers}
-use Rattle.ax25_link.specs.Refusals.{refusal_frame}
-use Rattle.ax25_link.specs.Rows.{is_call}
-use Rattle.ax25_link.specs.Window.{IsWindow, Window}
-use Rattle.ax25_link.proofs.Offered.{prefix_law}
-use Rattle.node.specs.Events.{hears}
-use Rattle.ftl0_server.specs.Connection.Connected.{Connected}
-use Rattle.ftl0_server.specs.Server.{Refused, Server, hearing_stranger}
-use Rattle.ftl0_server.specs.ServerStep.{ServerStep, Stepped}
-use Rattle.ftl0_server.specs.Slots.{all_freed, first_empty}
-use Rattle.server_laws.specs.Places.{refusals}
-use Rattle.server_laws.proofs.Offered.{silent-by, stranger_by}
-use Rattle.air_attempt.specs.Attempt.{Attempt, IsAnsweredBy, IsAttempt, IsFromTo, IsRefusal, client_station}
-use Rattle.air_attempt.specs.Attempt.{server_station}
-use Rattle.air_attempt.specs.Laws.{AreAttempts, Calls, IsBetween, SitsBy, did_in}
-use Rattle.air_attempt.specs.Party.{server_sends, to_server_delivered}
-use Rattle.air_attempt.specs.Sides.{ServerSide}
-use Rattle.air_attempt.specs.Transfers.{ServerDid, after_hearing, connection_of, heard_by}
+use Rattle.air_attempt.proofs.Names.{AllByRecursion, CallSign, FrameValue, IsAt, Transmission, fresh, is_numbered, AreAnswers, refusal_frame, is_call, IsWindow, Window, prefix_law, hears, Connected, Refused, Server, hearing_stranger, ServerStep, Stepped, all_freed, first_empty, refusals, silent-by, stranger_by, Attempt, IsAnsweredBy, IsAttempt, IsFromTo, IsRefusal, client_station, server_station, AreAttempts, Calls, IsBetween, SitsBy, did_in, server_sends, to_server_delivered, ServerSide, ServerDid, after_hearing, connection_of, heard_by}
 use Rattle.air_attempt.proofs.Connections.{old-none}
 use Rattle.air_attempt.proofs.Left.{delivered-server}
 use Rattle.air_attempt.proofs.Places.{connection_among, place-of-not}

@@ -1,23 +1,10 @@
 -- What a step of a server makes of its places, before those of sessions that are over are free.
 use Rattle.std.proofs.Common.{◌≡◌, ℕ, ◌<◌, List, [], ◌++◌, length, get_or, map, Bool, true, Option, None, Some, refl}
 use Rattle.std.proofs.Common.{sym, ap, ap₂, subst, ◌∙◌, append-nil}
-use Rattle.std.specs.Prelude.{slice_get, slice_set, ◌&&◌}
-use Rattle.std.proofs.lemmas.List.Quantifiers.{position-Some}
-use Rattle.std.proofs.lemmas.Option.{slice_get-get_or, slice_get_within}
-use Rattle.ax25_frames.specs.FrameText.{FrameValue}
-use Rattle.ax25_link.specs.Rows.{is_call}
-use Rattle.ax25_link.specs.Window.{Window}
-use Rattle.node.specs.Events.{NodeEvent, hears, ticks}
-use Rattle.ftl0_session.specs.Lists.Lists.{has_left}
-use Rattle.ftl0_server.specs.Connection.Connected.{Connected, answering}
-use Rattle.ftl0_server.specs.Connection.Hearing.{Happened, hearing}
-use Rattle.ftl0_server.specs.Server.{Refused, Server, heard_at, hearing_at, hearing_by, hearing_stranger, settled}
-use Rattle.ftl0_server.specs.Server.{with_slot}
-use Rattle.ftl0_server.specs.ServerStep.{ServerStep, Stepped, happening}
-use Rattle.ftl0_server.specs.Slots.{Slot, all_freed, connected, first_empty, free, is_empty, place_of, slot_after}
-use Rattle.ftl0_server.specs.Slots.{slot_ticking}
-use Rattle.server_laws.specs.Places.{SlotDrains, SlotsDrain, refusals}
-use Rattle.server_laws.proofs.Offered.{SendsAll, alone-at, passed-same, places-none, sends-all, silent-by, stranger_by}
+use Rattle.std.specs.Prelude.{◌&&◌}
+use Rattle.ftl0_server.specs.Server.{settled}
+use Rattle.ftl0_server.specs.Slots.{is_empty}
+use Rattle.air_attempt.proofs.Names.{slice_get, slice_set, position-Some, slice_get-get_or, slice_get_within, FrameValue, is_call, Window, NodeEvent, hears, ticks, has_left, Connected, answering, Happened, hearing, Refused, Server, heard_at, hearing_at, hearing_by, hearing_stranger, with_slot, ServerStep, Stepped, happening, Slot, all_freed, connected, first_empty, free, place_of, slot_after, slot_ticking, SlotDrains, SlotsDrain, refusals, SendsAll, alone-at, passed-same, places-none, sends-all, silent-by, stranger_by}
 
 -- What a step keeps of the server, which is this one before it sends anything.
 pub record Keeps (old after : Server) (gives : Stepped) (last : Server) : Type 0 where

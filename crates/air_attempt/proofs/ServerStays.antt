@@ -1,24 +1,11 @@
 -- A server that heard a frame is one between events again.
 use Rattle.std.proofs.Common.{◌≡◌, ℕ, List, [], Bool, true, false, Option, None, Some, refl, sym, ap, ◌∙◌}
-use Rattle.std.specs.Prelude.{slice_get, slice_set, ◌&&◌}
-use Rattle.std.proofs.lemmas.Option.{same_Some}
-use Rattle.px_base.specs.CallSign.{CallSign}
-use Rattle.ax25_frames.specs.FrameText.{FrameValue}
-use Rattle.ax25_link.specs.Rows.{is_call}
-use Rattle.node.specs.Events.{hears}
+use Rattle.std.specs.Prelude.{◌&&◌}
 use Rattle.file_store.specs.Command.{after_all}
-use Rattle.ftl0_session.specs.Lists.Lists.{has_left}
-use Rattle.ftl0_server.specs.Connection.Connected.{Connected, answering, caller_of}
-use Rattle.ftl0_server.specs.Connection.Hearing.{Happened, hearing, with_end}
-use Rattle.ftl0_server.specs.Entries.{HearingLaw}
-use Rattle.ftl0_server.specs.Server.{Server, hearing_at, hearing_by, hearing_stranger}
-use Rattle.ftl0_server.specs.ServerStep.{ServerStep, Stepped, happening}
-use Rattle.ftl0_server.specs.Slots.{Slot, all_freed, connected, first_empty, free, is_empty, leaving, place_of}
-use Rattle.ftl0_server.specs.Slots.{slot_after}
-use Rattle.server_laws.specs.Places.{refusals}
-use Rattle.server_laws.proofs.Offered.{stranger_by}
+use Rattle.ftl0_server.specs.Connection.Hearing.{with_end}
+use Rattle.ftl0_server.specs.Slots.{is_empty}
 use Rattle.server_laws.specs.Steps as server
-use Rattle.air_attempt.specs.Laws.{IsBetween, IsSeatedIn, StaysServer}
+use Rattle.air_attempt.proofs.Names.{slice_get, slice_set, same_Some, CallSign, FrameValue, is_call, hears, has_left, Connected, answering, caller_of, Happened, hearing, HearingLaw, Server, hearing_at, hearing_by, hearing_stranger, ServerStep, Stepped, happening, Slot, all_freed, connected, first_empty, free, leaving, place_of, slot_after, refusals, stranger_by, IsBetween, IsSeatedIn, StaysServer}
 use Rattle.air_attempt.proofs.LinkKeeps.{drains-keep}
 use Rattle.air_attempt.proofs.Places.{place-of-is, place-of-not, position-is, same-seat, seat-caller}
 use Rattle.air_attempt.proofs.ServerBetween.{IsAtPlace, Reseats, Resits, between-new, known-new, none-reseats}

@@ -1,28 +1,10 @@
 -- What a tick makes of a server's places.
 use Rattle.std.proofs.Common.{◌≡◌, inl, ℕ, List, [], length, map, false, Some, refl, sym, ap, subst, ◌∙◌}
-use Rattle.std.specs.Prelude.{slice_get}
-use Rattle.std.specs.Option.{option_map}
-use Rattle.std.proofs.lemmas.Option.{same_Some, slice_get-map}
-use Rattle.std.proofs.lemmas.List.{length-map}
-use Rattle.px_base.specs.CallSign.{CallSign}
-use Rattle.ax25_frames.specs.FrameText.{FrameValue}
-use Rattle.ax25_link.specs.Ends.{LinkEnd}
 use Rattle.ax25_link.specs.LinkStep as step
-use Rattle.ax25_link.specs.Sending.{Drains}
-use Rattle.ax25_link.specs.Stations.{Stations}
-use Rattle.ax25_link.specs.Timer.{after_tick}
-use Rattle.ax25_link.specs.Window.{Window}
-use Rattle.ax25_link.proofs.Offered.{stations_law}
-use Rattle.node.specs.Events.{ticks}
 use Rattle.file_store.specs.Command.{after_all}
-use Rattle.ftl0_server.specs.Connection.Connected.{Connected, caller_of}
 use Rattle.ftl0_server.specs.Connection.Hearing.{ticking, with_end}
-use Rattle.ftl0_server.specs.Server.{Server}
-use Rattle.ftl0_server.specs.ServerStep.{ServerStep, Stepped}
-use Rattle.ftl0_server.specs.Slots.{Slot, connected, free, leaving, left_by, slot_ticking}
-use Rattle.server_laws.specs.Places.{SlotDrains}
 use Rattle.server_laws.specs.Steps as server
-use Rattle.air_attempt.specs.Laws.{IsBetween, IsSeatedIn, StaysServer}
+use Rattle.air_attempt.proofs.Names.{slice_get, option_map, same_Some, slice_get-map, length-map, CallSign, FrameValue, LinkEnd, Drains, Stations, after_tick, Window, stations_law, ticks, Connected, caller_of, Server, ServerStep, Stepped, Slot, connected, free, leaving, left_by, slot_ticking, SlotDrains, IsBetween, IsSeatedIn, StaysServer}
 use Rattle.air_attempt.proofs.Connections.{IsBehind, left-held}
 use Rattle.air_attempt.proofs.Drained.{DrainedAt, IsHeldAt, drained-at, drained-length, to_station, was-drained}
 use Rattle.air_attempt.proofs.LinkKeeps.{drains-keep}

@@ -1,31 +1,10 @@
 -- A session goes on by the entries of a frame.
 use Rattle.std.proofs.Common.{◌≡◌, ℕ, List, [], ◌∷◌, ◌++◌, Bool, true, false, refl, sym, ap, ap₂, subst, ◌∙◌}
 use Rattle.std.proofs.Common.{append_assoc, append-nil}
-use Rattle.std.specs.List.{AllByRecursion, concat}
-use Rattle.std.proofs.lemmas.List.Concat.{flat_map-append}
-use Rattle.px_base.specs.CallSign.{CallSign}
-use Rattle.px_base.specs.Octets.{IsOctets}
-use Rattle.ax25_frames.specs.FrameText.{FrameValue}
-use Rattle.ftl0_packets.specs.Items.{texts}
-use Rattle.ftl0_packets.specs.Layout.{Fits, Item}
-use Rattle.ftl0_packets.specs.Reading.{packets_of, rest_of}
-use Rattle.ftl0_packets.proofs.SplitLemmas.{texts-append}
-use Rattle.ax25_link.specs.declared.state.Heard.{Heard}
-use Rattle.ax25_link.specs.declared.state.Heard.TheVariants.{Nothing, Opened, Reopened, Bytes, Closed}
-use Rattle.ax25_link.specs.declared.state.LinkState.TheVariants.{Up}
-use Rattle.ax25_link.specs.Ends.{LinkEnd}
-use Rattle.ax25_link.specs.Rows.{after_frame, heard_of, is_call}
-use Rattle.ax25_link.specs.Sending.{Drains}
-use Rattle.ax25_link.specs.Window.{Window}
-use Rattle.file_store.specs.Store.{Store}
-use Rattle.ftl0_session.specs.Lists.Lists.{CallerList}
-use Rattle.ftl0_session.specs.Run.{Session, session_over}
-use Rattle.ftl0_session.specs.Table.{State, command}
-use Rattle.ftl0_server.specs.Connection.Connected.{Connected, caller_of}
-use Rattle.ftl0_server.specs.Connection.Hearing.{Happened, hearing, rest_as, with_end}
+use Rattle.ftl0_server.specs.Connection.Hearing.{with_end}
 use Rattle.ftl0_server.specs.Entries as session
-use Rattle.ftl0_server.specs.Entries.{GoesBy, HeardBy, IsNotLost, SessionEntry, after_row, packets_told, session_after}
-use Rattle.air_attempt.specs.Sides.{IsSession, ServerSide, SessionReaches, said_by_server}
+use Rattle.ftl0_server.specs.Entries.{GoesBy, packets_told}
+use Rattle.air_attempt.proofs.Names.{AllByRecursion, concat, flat_map-append, CallSign, IsOctets, FrameValue, texts, Fits, Item, packets_of, rest_of, texts-append, Heard, Nothing, Opened, Reopened, Bytes, Closed, Up, LinkEnd, after_frame, heard_of, is_call, Drains, Window, Store, CallerList, Session, session_over, State, command, Connected, caller_of, Happened, hearing, rest_as, HeardBy, IsNotLost, SessionEntry, after_row, session_after, IsSession, ServerSide, SessionReaches, said_by_server}
 use Rattle.air_attempt.proofs.LinkKeeps.{IsNoReopening, does-taken, drains-keep, frame-brings, taken_as}
 use Rattle.air_attempt.proofs.PacketLists.{reads-on}
 use Rattle.air_attempt.proofs.ListLemmas.{each-append}

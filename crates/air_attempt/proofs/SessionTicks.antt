@@ -2,32 +2,12 @@
 use Rattle.std.proofs.Common.{◌≡◌, ℕ, ◌+◌, List, [], ◌∷◌, ◌++◌, Bool, true, false, Option, None, Some, refl, sym, ap}
 use Rattle.std.proofs.Common.{subst, ◌∙◌, append-nil}
 use Rattle.std.specs.Prelude.{if◌then◌else◌, ◌&&◌}
-use Rattle.std.specs.List.{AllByRecursion, concat}
-use Rattle.std.proofs.lemmas.Bool.{cond_both}
-use Rattle.px_base.specs.CallSign.{CallSign}
-use Rattle.ax25_frames.specs.FrameText.{FrameValue}
-use Rattle.ftl0_packets.specs.Reading.{packets_of, rest_of}
-use Rattle.ftl0_packets.specs.Items.{texts}
-use Rattle.ftl0_packets.specs.Layout.{Fits}
-use Rattle.ax25_link.specs.declared.state.LinkState.TheVariants.{Down, Up}
-use Rattle.ax25_link.specs.declared.state.Why.{Why}
 use Rattle.ax25_link.specs.declared.state.Why.TheVariants as why
-use Rattle.ax25_link.specs.Ends.{LinkEnd}
 use Rattle.ax25_link.specs.Kept.{is_there}
-use Rattle.ax25_link.specs.LinkStep.{LinkStep, heard_of_coming}
 use Rattle.ax25_link.specs.LinkStep as step
-use Rattle.ax25_link.specs.Rows.{entering}
-use Rattle.ax25_link.specs.Sending.{Drains}
-use Rattle.ax25_link.specs.Timer.{after_count, after_tick, is_down, is_spent, runs_out, told_of_tick, trying}
-use Rattle.ax25_link.specs.Window.{Window}
-use Rattle.ax25_link.proofs.Offered.{stations_law}
-use Rattle.ftl0_session.specs.Table.{command}
-use Rattle.ftl0_server.specs.Connection.Connected.{Connected, caller_of}
 use Rattle.ftl0_server.specs.Connection.Hearing.{ticking, with_end}
 use Rattle.ftl0_server.specs.Entries as session
-use Rattle.ftl0_server.specs.Entries.{IsNotLost, SessionEntry}
-use Rattle.air_attempt.specs.Attempt.{Attempt, IsAttempt}
-use Rattle.air_attempt.specs.Sides.{IsSession, ServerSide, SessionReaches}
+use Rattle.air_attempt.proofs.Names.{AllByRecursion, concat, cond_both, CallSign, FrameValue, packets_of, rest_of, texts, Fits, Down, Up, Why, LinkEnd, LinkStep, heard_of_coming, entering, Drains, after_count, after_tick, is_down, is_spent, runs_out, told_of_tick, trying, Window, stations_law, command, Connected, caller_of, IsNotLost, SessionEntry, Attempt, IsAttempt, IsSession, ServerSide, SessionReaches}
 use Rattle.air_attempt.proofs.LinkKeeps.{KeepsStreams, drains-keep, drains-quiet}
 use Rattle.air_attempt.proofs.ServerLink.{answered-by, attempt-goes-on, gone, link-ticks}
 

@@ -1,15 +1,6 @@
 -- A caller's attempts and its place in the server, where the step didn't change it.
 use Rattle.std.proofs.Common.{◌≡◌, ◌≢◌, inl, inr, ℕ, ◌<◌, List, length, sym, ap, subst, ◌∙◌}
-use Rattle.std.specs.Prelude.{slice_get, slice_set}
-use Rattle.std.specs.List.{AllByRecursion}
-use Rattle.px_base.specs.CallSign.{CallSign}
-use Rattle.ax25_link.specs.Window.{Window}
-use Rattle.ax25_link.proofs.Offered.{slice_get-set_other}
-use Rattle.ftl0_server.specs.Connection.Connected.{Connected, caller_of}
-use Rattle.ftl0_server.specs.Server.{Server}
-use Rattle.ftl0_server.specs.Slots.{Slot, all_freed}
-use Rattle.air_attempt.specs.Attempt.{Attempt}
-use Rattle.air_attempt.specs.Laws.{AreAttempts, Calls, IsBetween, IsSeatedIn, SitsBy}
+use Rattle.air_attempt.proofs.Names.{slice_get, slice_set, AllByRecursion, CallSign, Window, slice_get-set_other, Connected, caller_of, Server, Slot, all_freed, Attempt, AreAttempts, Calls, IsBetween, IsSeatedIn, SitsBy}
 use Rattle.air_attempt.proofs.Places.{place-of-at, place-of-is, place-of-no, place-of-not, same-seat, seat-freed}
 use Rattle.air_attempt.proofs.ServerBetween.{Resits, seat-before, seat-is}
 

@@ -1,26 +1,11 @@
 -- What becomes of a client's attempts at a tick of the server: the newest session goes on, or is over.
 use Rattle.std.proofs.Common.{◌≡◌, ℕ, List, [], ◌∷◌, ◌++◌, Bool, false, Option, None, Some, refl, sym, ap, ap₂, subst}
 use Rattle.std.proofs.Common.{◌∙◌}
-use Rattle.std.specs.Prelude.{IfSome, MatchOption}
-use Rattle.std.specs.List.{AllByRecursion}
-use Rattle.std.specs.Option.{option_map_or, option_or}
-use Rattle.std.proofs.lemmas.Option.{same_Some}
-use Rattle.px_base.specs.CallSign.{CallSign}
-use Rattle.ax25_link.specs.Sending.{Drains}
 use Rattle.ax25_link.specs.Timer as link
-use Rattle.ax25_link.specs.Window.{Window}
-use Rattle.node.specs.Events.{ticks}
-use Rattle.ftl0_server.specs.Connection.Connected.{Connected, caller_of}
-use Rattle.ftl0_server.specs.Server.{Server}
-use Rattle.ftl0_server.specs.ServerStep.{ServerStep, Stepped}
 use Rattle.ftl0_server.specs.Connection.Hearing.{ticking}
-use Rattle.ftl0_server.specs.Slots.{place_of}
 use Rattle.server_laws.specs.Steps as server
-use Rattle.air_attempt.specs.Attempt.{Attempt, IsAttempt}
-use Rattle.air_attempt.specs.Laws.{AreAttempts, Calls, IsBetween, IsNewestSession, IsSeatedIn, ServerTicksLaw, did_in}
-use Rattle.air_attempt.specs.Party.{AreOver, OnlyNewestUp, newest_side, with_answered}
-use Rattle.air_attempt.specs.Sides.{ServerSide}
-use Rattle.air_attempt.specs.Transfers.{ServerDid, after_tick, connection_of, did_to, has_session, served, ticked_by}
+use Rattle.air_attempt.specs.Transfers.{after_tick}
+use Rattle.air_attempt.proofs.Names.{IfSome, MatchOption, AllByRecursion, option_map_or, option_or, same_Some, CallSign, Drains, Window, ticks, Connected, caller_of, Server, ServerStep, Stepped, place_of, Attempt, IsAttempt, AreAttempts, Calls, IsBetween, IsNewestSession, IsSeatedIn, ServerTicksLaw, did_in, AreOver, OnlyNewestUp, newest_side, with_answered, ServerSide, ServerDid, connection_of, did_to, has_session, served, ticked_by}
 use Rattle.air_attempt.proofs.Connections.{IsBehind, last-connection, new-seat, none-over, old-connection, old-none}
 use Rattle.air_attempt.proofs.Connections.{session-up}
 use Rattle.air_attempt.proofs.Drained.{to_station}

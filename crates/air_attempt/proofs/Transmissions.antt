@@ -1,19 +1,7 @@
 -- What was sent in an attempt, once a transmission of it is delivered, and once more was sent.
 use Rattle.std.proofs.Common.{◌≡◌, ℕ, zero, suc, ◌<◌, List, [], ◌∷◌, map, true, false, subst, arith}
-use Rattle.std.specs.List.{AllByRecursion}
-use Rattle.std.proofs.lemmas.Option.{same_Some}
-use Rattle.px_base.specs.CallSign.{CallSign}
-use Rattle.ax25_frames.specs.declared.control.Control.{Control}
-use Rattle.ax25_frames.specs.declared.control.Control.TheVariants.{I, Rr, Rnr, Rej}
 use Rattle.ax25_frames.specs.Kinds.{kind_row}
-use Rattle.ax25_frames.specs.FrameText.{FrameValue}
-use Rattle.ax25_link.specs.Air.{IsAt, Transmission, control_of, delivering, fresh, sending_all}
-use Rattle.ax25_link.specs.Laws.{HasNoCall}
-use Rattle.ax25_link.specs.Linked.{ack_number, send_number}
-use Rattle.ax25_link.specs.Rows.{is_call}
-use Rattle.ax25_link.specs.Stations.{IsFrameOf, Stations}
-use Rattle.ax25_link.specs.Window.{IsWindow, Window}
-use Rattle.air_attempt.specs.Attempt.{AreFromTo, IsFromTo, IsOneCall}
+use Rattle.air_attempt.proofs.Names.{AllByRecursion, same_Some, CallSign, Control, I, Rr, Rnr, Rej, FrameValue, IsAt, Transmission, control_of, delivering, fresh, sending_all, HasNoCall, ack_number, send_number, is_call, IsFrameOf, Stations, IsWindow, Window, AreFromTo, IsFromTo, IsOneCall}
 use Rattle.air_attempt.proofs.ListLemmas.{each-append}
 
 -- ---- a delivery

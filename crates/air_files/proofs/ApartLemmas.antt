@@ -1,19 +1,6 @@
 -- The facts of a client taken apart: of one session, of one attempt, and of the client itself.
 use Rattle.std.proofs.Common.{◌≡◌, ℕ, List, true, Some}
-use Rattle.std.specs.Prelude.{IfSome}
-use Rattle.file_store.specs.Info.{IsCompleteIn}
-use Rattle.file_store.specs.Store.{Store}
-use Rattle.ftl0_session.specs.Table.{receiving}
-use Rattle.air_attempt.specs.Attempt.{Attempt}
-use Rattle.air_attempt.specs.Lists.{Has}
-use Rattle.air_attempt.specs.Party.{Asked, EachAttempt, EachSide, IsFileOf, Party, newest}
-use Rattle.air_attempt.specs.Said.{Grants, Offers, SaysComplete}
-use Rattle.air_attempt.specs.Sides.{ServerSide}
-use Rattle.air_attempt.proofs.Offered.{each-at, each-from}
-use Rattle.air_files.specs.Dialogue.{IsDueNow, Says, Serves}
-use Rattle.air_files.specs.Facts.{AreFirstIfAny, AskedWithin, GoesOnWithTask, HasFacts, HasFetched, HasNumber}
-use Rattle.air_files.specs.Facts.{IsFetching, IsGrantKept, IsNumbered, IsOfferKept, NotesGrant, Receives, got}
-use Rattle.air_files.specs.Kept.{HoldsAck, IsTaskKept}
+use Rattle.air_files.proofs.Names.{IfSome, IsCompleteIn, Store, receiving, Attempt, Has, Asked, EachAttempt, EachSide, IsFileOf, Party, newest, Grants, Offers, SaysComplete, ServerSide, each-at, each-from, IsDueNow, Says, Serves, AreFirstIfAny, AskedWithin, GoesOnWithTask, HasFacts, HasFetched, HasNumber, IsFetching, IsGrantKept, IsNumbered, IsOfferKept, NotesGrant, Receives, got, HoldsAck, IsTaskKept}
 use Rattle.air_files.proofs.LiftLemmas.{each-side, side-at}
 
 -- the facts of one session of an attempt, each as `HasSessionFacts` has it of all

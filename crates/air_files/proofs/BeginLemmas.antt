@@ -1,41 +1,13 @@
 -- An attempt that begins, and a session that does, have all facts: neither side said anything but LOGIN_RESP.
 use Rattle.std.proofs.Common.{◌≡◌, ⊎_elim, ℕ, List, [], ◌∷◌, length, refl, ap, sym, ◌∙◌, subst, Option, None, Some, Ok}
 use Rattle.std.proofs.Common.{inl, inr}
-use Rattle.std.specs.Prelude.{IfSome, drop, slice_get}
-use Rattle.std.specs.List.{AllByRecursion}
-use Rattle.std.specs.Option.{option_map}
-use Rattle.std.proofs.lemmas.List.Elements.{All-nil}
-use Rattle.px_base.specs.Octets.{IsOctets}
-use Rattle.ftl0_packets.specs.Layout.{PacketValue, ul_ack_resp, ul_error_resp, ul_go_resp, upload_cmd}
-use Rattle.ax25_link.specs.declared.state.Why.{Why}
-use Rattle.file_store.specs.Store.{Store}
-use Rattle.ftl0_session.specs.Downloads.Needs.{IsDueIn}
-use Rattle.ftl0_session.specs.Downloads.Sending.{octets_due}
-use Rattle.ftl0_session.specs.Table.{State, command, download_part, greeting, receiving}
 use Rattle.ftl0_server.specs.Entries as session
-use Rattle.ftl0_server.specs.Entries.{SessionEntry}
-use Rattle.ftl0_job.specs.declared.ending.Outcome.{Outcome}
 use Rattle.ftl0_job.specs.declared.ending.Outcome.TheVariants as reached
-use Rattle.ftl0_job.specs.declared.work.Work.{Work}
 use Rattle.ftl0_job.specs.declared.work.Work.TheVariants as work
-use Rattle.ftl0_job.specs.Download.{Download}
-use Rattle.ftl0_job.specs.JobState.{IsNotBegun}
-use Rattle.ftl0_job.specs.Table.{JobState}
-use Rattle.ftl0_client.specs.declared.attempt.outcome.AttemptOutcome.TheVariants.{Reached}
-use Rattle.ftl0_client.specs.Attempt.Attempted.{outcome_by}
 use Rattle.ftl0_client.specs.Entries as job
-use Rattle.ftl0_client.specs.Entries.{JobEntry}
-use Rattle.air_attempt.specs.Attempt.{Attempt}
-use Rattle.air_attempt.specs.Lists.{Has, OneIs}
-use Rattle.air_attempt.specs.Party.{Asked, Party, all_over, over, sessions_over}
-use Rattle.air_attempt.specs.Said.{IsAnswer, IsTaken, Took, octets_said}
-use Rattle.air_attempt.specs.Sides.{ClientSide, ServerSide, said_by_client, said_by_server}
-use Rattle.air_attempt.proofs.Offered.{each-weaker, some-weaker}
-use Rattle.air_files.specs.Dialogue.{IsListSaid, IsOfListing, Says, Serves}
 use Rattle.air_files.specs.DownloadDialogue as download
-use Rattle.air_files.specs.Facts.{FetchesBy, FetchesIn, GoesOnWithTask, HasFacts, IsFetching, IsGranted, coming_by}
-use Rattle.air_files.specs.Laws.{IsBeginning, IsGreeted, with_attempt}
-use Rattle.air_files.specs.UploadDialogue.{answered_in, silent, unasked}
+use Rattle.air_files.specs.UploadDialogue.{silent}
+use Rattle.air_files.proofs.Names.{IfSome, drop, slice_get, AllByRecursion, option_map, All-nil, IsOctets, PacketValue, ul_ack_resp, ul_error_resp, ul_go_resp, upload_cmd, Why, Store, IsDueIn, octets_due, State, command, download_part, greeting, receiving, SessionEntry, Outcome, Work, Download, IsNotBegun, JobState, Reached, outcome_by, JobEntry, Attempt, Has, OneIs, Asked, Party, all_over, over, sessions_over, IsAnswer, IsTaken, Took, octets_said, ClientSide, ServerSide, said_by_client, said_by_server, each-weaker, some-weaker, IsListSaid, IsOfListing, Says, Serves, FetchesBy, FetchesIn, GoesOnWithTask, HasFacts, IsFetching, IsGranted, coming_by, IsBeginning, IsGreeted, with_attempt, answered_in, unasked}
 use Rattle.air_files.proofs.ApartLemmas.{HasClientFacts, HasFactsApart, HasSideFacts, apart, together}
 use Rattle.air_files.proofs.GoneLemmas.{facts-over, like-fetches_by}
 use Rattle.air_files.proofs.LikeLemmas.{like-client, like-side, number-like}

@@ -2,26 +2,9 @@
 use Rattle.std.proofs.Common.{◌≡◌, ◌≢◌, inl, inr, ℕ, ◌+◌, List, [], ◌∷◌, ◌++◌, length, map, take, drop, refl, ap, sym}
 use Rattle.std.proofs.Common.{◌∙◌, subst, Some, arith, length-append, append_assoc, add-zero, append-nil}
 use Rattle.std.proofs.Common.{take-append-drop}
-use Rattle.std.specs.Prelude.{Ok}
-use Rattle.std.specs.List.{concat}
-use Rattle.std.proofs.Math.Seq.{drop-append-add}
-use Rattle.px_base.specs.Octets.{IsFront}
-use Rattle.ftl0_packets.specs.Layout.{Item, PacketValue, data_part, dl_ack_cmd, dl_nak_cmd, download_cmd}
-use Rattle.file_store.specs.Store.{Store}
-use Rattle.ftl0_session.specs.Downloads.Sending.{most_data}
-use Rattle.ftl0_session.specs.Downloads.Table.{file_of}
 use Rattle.ftl0_server.specs.Entries as session
-use Rattle.ftl0_job.specs.Download.{Download}
 use Rattle.ftl0_client.specs.Entries as job
-use Rattle.air_attempt.specs.Attempt.{Attempt}
-use Rattle.air_attempt.specs.Laws.{ClientTookFront}
-use Rattle.air_attempt.specs.Lists.{AreFirstOf as AreFirstIn, Has}
-use Rattle.air_attempt.specs.Party.{Party}
-use Rattle.air_attempt.specs.Said.{octets_of_data, octets_said, octets_taken}
-use Rattle.air_attempt.specs.Sides.{IsGreeting, ServerSide, said_by_client, said_by_server}
-use Rattle.air_files.specs.DownloadDialogue.{AreSentFrom, Fetching, IsFetchingFile, IsWord, SaysDownload, asked}
-use Rattle.air_files.specs.DownloadDialogue.{fetching_said, silent, told}
-use Rattle.air_files.specs.Facts.{AreFirstIfAny, Fetches, coming_by, got}
+use Rattle.air_files.proofs.Names.{Ok, concat, drop-append-add, IsFront, Item, PacketValue, data_part, dl_ack_cmd, dl_nak_cmd, download_cmd, Store, most_data, file_of, Download, Attempt, ClientTookFront, AreFirstOf as AreFirstIn, Has, Party, octets_of_data, octets_said, octets_taken, IsGreeting, ServerSide, said_by_client, said_by_server, AreSentFrom, Fetching, IsFetchingFile, IsWord, SaysDownload, asked, fetching_said, silent, told, AreFirstIfAny, Fetches, coming_by, got}
 use Rattle.air_files.proofs.DownloadDue.{left-is, left_then, place_then}
 use Rattle.air_files.proofs.FetchesOn.{ComesOn, coming-more, octets-behind}
 

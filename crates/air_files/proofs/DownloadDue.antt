@@ -2,20 +2,10 @@
 use Rattle.std.proofs.Common.{◌≡◌, ℕ, ◌+◌, ◌-◌, ◌≤◌, ◌==◌, min, List, [], ◌∷◌, ◌++◌, length, take, drop, refl, ap, sym}
 use Rattle.std.proofs.Common.{◌∙◌, false, Some, arith, length-append, length-drop, length-take, append_assoc}
 use Rattle.std.proofs.Common.{append-nil, take-append-drop, add-zero}
-use Rattle.std.specs.List.{concat}
-use Rattle.std.proofs.lemmas.Bool.Decides.{nat_tests}
-use Rattle.std.proofs.lemmas.List.{drop-drop}
 use Rattle.std.proofs.lemmas.List.Folds.{concat-append}
-use Rattle.std.proofs.Math.Seq.{drop-append-add}
-use Rattle.ftl0_packets.specs.Layout.{data_end, data_part}
-use Rattle.file_store.specs.Store.{Store}
-use Rattle.ftl0_session.specs.Downloads.Sending.{most_data, octets_due}
 use Rattle.ftl0_session.specs.Downloads.Table as download
-use Rattle.ftl0_session.specs.Downloads.Table.{file_of, octets_in}
-use Rattle.ftl0_session.specs.Table.{DuePacket, next_due, sending, waiting}
-use Rattle.ftl0_session.proofs.downloads.DueLemmas.{take-all}
-use Rattle.ftl0_session.proofs.downloads.FileLemmas.{file-complete}
-use Rattle.air_files.specs.DownloadDialogue.{AreAllSent, AreSentFrom}
+use Rattle.ftl0_session.specs.Table.{DuePacket}
+use Rattle.air_files.proofs.Names.{concat, nat_tests, drop-drop, drop-append-add, data_end, data_part, Store, most_data, octets_due, file_of, octets_in, next_due, sending, waiting, take-all, file-complete, AreAllSent, AreSentFrom}
 
 -- the packet that goes on with the file, where these octets of it are left
 abbrev pub rest_due : ℕ → ℕ → ℕ → List ℕ → DuePacket

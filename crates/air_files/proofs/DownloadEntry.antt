@@ -1,22 +1,11 @@
 -- An entry of a session of a download is one of few: a command that is refused or granted, the word, or what is due.
 use Rattle.std.proofs.Common.{◌≡◌, ◌⊎◌, inl, inr, ℕ, ◌≤◌, List, [], ◌∷◌, ◌++◌, length, refl, ap, sym, ◌∙◌, subst, Bool}
 use Rattle.std.proofs.Common.{true, false, Option, None, Some}
-use Rattle.std.specs.Prelude.{Ok}
-use Rattle.std.specs.List.{AllByRecursion}
-use Rattle.px_base.specs.CallSign.{CallSign}
-use Rattle.ftl0_packets.specs.Layout.{Item, PacketValue, download_cmd}
-use Rattle.ftl0_session.specs.DownloadLaws.{DownloadsLaw}
-use Rattle.ftl0_session.specs.Downloads.Table.{file_of}
-use Rattle.ftl0_session.specs.Run.{Session}
-use Rattle.ftl0_session.specs.Table.{Row, State, command, next_due, session_row, waiting}
+use Rattle.ftl0_session.specs.Table.{Row}
 use Rattle.ftl0_server.specs.Entries as session
-use Rattle.ftl0_server.specs.Entries.{GoesBy, SessionEntry, after_row, row_of}
-use Rattle.air_attempt.specs.Attempt.{Attempt}
-use Rattle.air_attempt.specs.Laws.{ServerTookFront}
-use Rattle.air_attempt.specs.Party.{Party}
-use Rattle.air_attempt.specs.Sides.{ServerSide}
-use Rattle.air_files.specs.DownloadDialogue.{IsLast, IsSendingState, IsWord, Sending, ended, refused, sends, unasked}
-use Rattle.air_files.specs.DownloadDialogue.{waits}
+use Rattle.ftl0_server.specs.Entries.{GoesBy, row_of}
+use Rattle.air_files.specs.DownloadDialogue.{unasked}
+use Rattle.air_files.proofs.Names.{Ok, AllByRecursion, CallSign, Item, PacketValue, download_cmd, DownloadsLaw, file_of, Session, State, command, next_due, session_row, waiting, SessionEntry, after_row, Attempt, ServerTookFront, Party, ServerSide, IsLast, IsSendingState, IsWord, Sending, ended, refused, sends, waits}
 use Rattle.air_files.proofs.DownloadNext.{IsNextOf, next-is}
 use Rattle.air_files.proofs.DownloadQueued.{due-sends, keeps-queued}
 use Rattle.air_files.proofs.DownloadRows.{last_row, refusal, row-none, row-sends, row-word, sending_row}

@@ -1,37 +1,11 @@
 -- One entry of a job that downloads a file keeps its client's facts.
 use Rattle.std.proofs.Common.{◌≡◌, ◌≢◌, ◌⊎◌, inl, inr, ℕ, ◌≤◌, List, [], ◌∷◌, ◌++◌, length, refl, ap, sym, ◌∙◌, subst}
 use Rattle.std.proofs.Common.{Option, None, Some, Ok, append-nil, take_all, le_refl, le_trans}
-use Rattle.px_base.specs.CallSign.{CallSign}
-use Rattle.ftl0_packets.specs.Items.{kind_of_item}
-use Rattle.ftl0_packets.specs.Layout.{Item, PacketValue, download_cmd}
-use Rattle.pfh_items.specs.Faults.{fault_code}
-use Rattle.file_store.specs.Store.{Store}
-use Rattle.client_notes.specs.Command.{NotesCommand}
-use Rattle.client_notes.specs.Laws.{after_all}
-use Rattle.client_notes.specs.Notes.{Lists, got_of}
 use Rattle.client_notes.specs.Several as notes
-use Rattle.ftl0_job.specs.declared.ending.Ending.{Ending}
 use Rattle.ftl0_job.specs.declared.ending.Outcome.TheVariants as outcome
-use Rattle.ftl0_job.specs.declared.work.Work.{Work}
 use Rattle.ftl0_job.specs.declared.work.Work.TheVariants as work
-use Rattle.ftl0_job.specs.Download.{Download, download_row, new_download}
-use Rattle.ftl0_job.specs.JobState.{IsCheckedIn, IsNotBegun}
-use Rattle.ftl0_job.specs.Row.{Row, strange_ending}
-use Rattle.ftl0_job.specs.Table.{JobState, item_row, job_after, job_row, new_job, row_of}
-use Rattle.ftl0_job.specs.Upload.{Upload, new_upload}
-use Rattle.ftl0_client.specs.Attempt.Attempted.{Attempted, outcome_by}
-use Rattle.ftl0_client.specs.declared.attempt.outcome.AttemptOutcome.TheVariants.{Reached}
 use Rattle.ftl0_client.specs.Entries as job
-use Rattle.ftl0_client.specs.Entries.{GoesBy, JobEntry, after_losing, lost, passed, queued, took}
-use Rattle.air_attempt.specs.Attempt.{Attempt}
-use Rattle.air_attempt.specs.Lists.{Has}
-use Rattle.air_attempt.specs.Party.{Asked, Party}
-use Rattle.air_attempt.specs.Sides.{JobReaches, ServerSide, said_by_client, said_by_server}
-use Rattle.air_attempt.proofs.Offered.{flat_map-one, one-cases, reaches-by, reaches-then, some-at}
-use Rattle.air_files.specs.Dialogue.{Says, Serves}
-use Rattle.air_files.specs.Facts.{AskedWithin, FetchesBy, FetchesIn}
-use Rattle.air_files.specs.Laws.{IsDownloadOf, TookFront, job_gone, with_job}
-use Rattle.air_files.specs.Tasks.{IsWork}
+use Rattle.air_files.proofs.Names.{CallSign, kind_of_item, Item, PacketValue, download_cmd, fault_code, Store, NotesCommand, after_all, Lists, got_of, Ending, Work, Download, download_row, new_download, IsCheckedIn, IsNotBegun, Row, strange_ending, JobState, item_row, job_after, job_row, new_job, row_of, Upload, new_upload, Attempted, outcome_by, Reached, GoesBy, JobEntry, after_losing, lost, passed, queued, took, Attempt, Has, Asked, Party, JobReaches, ServerSide, said_by_client, said_by_server, flat_map-one, one-cases, reaches-by, reaches-then, some-at, Says, Serves, AskedWithin, FetchesBy, FetchesIn, IsDownloadOf, TookFront, job_gone, with_job, IsWork}
 use Rattle.air_files.proofs.DownloadJobHeard.{IsNext, next-of}
 use Rattle.air_files.proofs.DownloadJobNotes.{Downloading, RowKept, packet-kept}
 use Rattle.air_files.proofs.DownloadJobRows.{download_at}

@@ -3,44 +3,13 @@ use Rattle.std.proofs.Common.{◌≡◌, ◌≢◌, inl, inr, ℕ, ◌+◌, ◌-
 use Rattle.std.proofs.Common.{ap, sym, ◌∙◌, subst, Bool, true, false, None, Some, Ok, arith, append_assoc, append-nil}
 use Rattle.std.proofs.Common.{length-append, length-drop}
 use Rattle.std.specs.Prelude.{if◌then◌else◌}
-use Rattle.std.specs.List.{concat}
-use Rattle.std.proofs.lemmas.Bool.Decides.{nat_tests}
-use Rattle.std.proofs.lemmas.List.{nil_from_length}
-use Rattle.px_base.specs.CallSign.{CallSign}
-use Rattle.px_base.specs.Octets.{IsFront}
-use Rattle.ftl0_packets.specs.Layout.{Item, PacketValue, data_end, data_part, dl_ack_cmd, dl_completed_resp}
-use Rattle.ftl0_packets.specs.Layout.{dl_error_resp, download_cmd, login_resp}
-use Rattle.pfh_items.specs.Faults.{fault_code}
-use Rattle.file_store.specs.Store.{Store}
-use Rattle.ftl0_session.proofs.downloads.FileLemmas.{file-complete}
 use Rattle.ftl0_server.specs.Entries as session
-use Rattle.client_notes.specs.Command.{NotesCommand, forgot}
-use Rattle.client_notes.specs.Laws.{after_all}
-use Rattle.client_notes.specs.Notes.{Lists, got_of}
 use Rattle.client_notes.specs.Several as notes
-use Rattle.ftl0_job.specs.declared.ending.Ending.{Ending}
 use Rattle.ftl0_job.specs.declared.ending.Outcome.TheVariants as outcome
-use Rattle.ftl0_job.specs.declared.phases.DownloadPhase.{DownloadPhase}
 use Rattle.ftl0_job.specs.declared.phases.DownloadPhase.TheVariants as phase
 use Rattle.ftl0_job.specs.declared.work.Work.TheVariants as work
-use Rattle.ftl0_job.specs.Download.{Download, download_row, error_row, last_got, unnoted, whole_gots, whole_row}
-use Rattle.ftl0_job.specs.JobState.{IsCheckedIn}
-use Rattle.ftl0_job.specs.Row.{Row, ends, goes_on, strange}
-use Rattle.ftl0_job.specs.Table.{row_of}
-use Rattle.ftl0_client.specs.Attempt.Attempted.{Attempted}
 use Rattle.ftl0_client.specs.Entries as job
-use Rattle.ftl0_client.specs.Entries.{JobEntry}
-use Rattle.air_attempt.specs.Attempt.{Attempt}
-use Rattle.air_attempt.specs.Laws.{ServerTookFront}
-use Rattle.air_attempt.specs.Lists.{Has}
-use Rattle.air_attempt.specs.Party.{Asked, Party}
-use Rattle.air_attempt.specs.Said.{octets_of_data, octets_of_item, octets_said, octets_taken}
-use Rattle.air_attempt.specs.Sides.{IsGreeting, ServerSide, said_by_client, said_by_server}
-use Rattle.air_attempt.proofs.Offered.{flat_map-one, one-left, one-right}
-use Rattle.air_files.specs.DownloadDialogue.{SaysDownload, ServesDownload}
-use Rattle.air_files.specs.Facts.{AreFirstIfAny, Fetches, FetchesIn, HasFacts, coming_by}
-use Rattle.air_files.specs.Laws.{job_gone, with_job}
-use Rattle.air_files.specs.SoundStore.{IsSoundStore}
+use Rattle.air_files.proofs.Names.{concat, nat_tests, nil_from_length, CallSign, IsFront, Item, PacketValue, data_end, data_part, dl_ack_cmd, dl_completed_resp, dl_error_resp, download_cmd, login_resp, fault_code, Store, file-complete, NotesCommand, forgot, after_all, Lists, got_of, Ending, DownloadPhase, Download, download_row, error_row, last_got, unnoted, whole_gots, whole_row, IsCheckedIn, Row, ends, goes_on, strange, row_of, Attempted, JobEntry, Attempt, ServerTookFront, Has, Asked, Party, octets_of_data, octets_of_item, octets_said, octets_taken, IsGreeting, ServerSide, said_by_client, said_by_server, flat_map-one, one-left, one-right, SaysDownload, ServesDownload, AreFirstIfAny, Fetches, FetchesIn, HasFacts, coming_by, job_gone, with_job, IsSoundStore}
 use Rattle.air_files.proofs.DownloadComing.{front-if-any}
 use Rattle.air_files.proofs.DownloadJobHeard.{IsNext, asks-once, coming-octets, end-sent, error-other, left-octets}
 use Rattle.air_files.proofs.DownloadJobHeard.{unasked-silent}

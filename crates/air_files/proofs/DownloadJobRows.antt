@@ -1,17 +1,10 @@
 -- The rows of the client's table for a download, each with the packet that has it.
 use Rattle.std.proofs.Common.{◌≡◌, ℕ, ◌+◌, List, [], ◌∷◌, ◌++◌, Bool, true, false, Option, None, Some, length, refl}
-use Rattle.std.specs.Prelude.{if◌then◌else◌, nat_lt}
-use Rattle.px_base.specs.CallSign.{CallSign}
-use Rattle.ftl0_packets.specs.Layout.{PacketValue, data_end, data_part, dl_completed_resp, dl_error_resp, download_cmd}
-use Rattle.ftl0_packets.specs.Layout.{kind_of, login_resp}
-use Rattle.pfh_items.specs.Faults.{fault_code}
+use Rattle.std.specs.Prelude.{if◌then◌else◌}
 use Rattle.client_notes.specs.Limits.{longest_file}
 use Rattle.ftl0_job.specs.declared.ending.Outcome.TheVariants as outcome
-use Rattle.ftl0_job.specs.declared.phases.DownloadPhase.{DownloadPhase}
 use Rattle.ftl0_job.specs.declared.phases.DownloadPhase.TheVariants as phase
-use Rattle.ftl0_job.specs.Download.{Download, done_row, download_row, error_row, fetching_row, login_row, unnoted}
-use Rattle.ftl0_job.specs.Download.{whole_gots, whole_row}
-use Rattle.ftl0_job.specs.Row.{Row, ends, goes_on, strange}
+use Rattle.air_files.proofs.Names.{nat_lt, CallSign, PacketValue, data_end, data_part, dl_completed_resp, dl_error_resp, download_cmd, kind_of, login_resp, fault_code, DownloadPhase, Download, done_row, download_row, error_row, fetching_row, login_row, unnoted, whole_gots, whole_row, Row, ends, goes_on, strange}
 
 -- the download of a server's file, of which these octets aren't noted yet, come so far
 abbrev pub download_at : CallSign → ℕ → List ℕ → DownloadPhase → Download

@@ -1,26 +1,10 @@
 -- What a job of a download has said, by how far it has come.
 use Rattle.std.proofs.Common.{◌≡◌, inl, inr, ℕ, List, [], ◌∷◌, ◌++◌, length, refl, ap, sym, ◌∙◌, subst, Option, None}
 use Rattle.std.proofs.Common.{Some, Ok, Err, append-nil}
-use Rattle.std.specs.Prelude.{⊤}
-use Rattle.px_base.specs.CallSign.{CallSign}
-use Rattle.ftl0_packets.specs.Items.{kind_of_item}
-use Rattle.ftl0_packets.specs.Layout.{Item, PacketValue, data_end, dl_ack_cmd, dl_nak_cmd, download_cmd}
-use Rattle.client_notes.specs.Notes.{Lists, got_of}
-use Rattle.ftl0_job.specs.declared.ending.Ending.{Ending}
-use Rattle.ftl0_job.specs.declared.phases.DownloadPhase.{DownloadPhase}
 use Rattle.ftl0_job.specs.declared.phases.DownloadPhase.TheVariants as phase
-use Rattle.ftl0_job.specs.declared.work.Work.{Work}
 use Rattle.ftl0_job.specs.declared.work.Work.TheVariants as work
-use Rattle.ftl0_job.specs.Download.{Download, download_row, new_download}
-use Rattle.ftl0_job.specs.Due.{DuePacket, due_by, next_due}
-use Rattle.ftl0_job.specs.Row.{Row}
-use Rattle.ftl0_job.specs.Table.{JobState, item_row, job_after, new_job, row_of}
-use Rattle.ftl0_client.specs.Entries.{JobEntry, after_losing, lost, packets_said, passed, said_in, took}
-use Rattle.air_attempt.specs.Lists.{OneIs}
-use Rattle.air_attempt.specs.Said.{IsTaken}
-use Rattle.air_attempt.specs.Sides.{JobReaches}
-use Rattle.air_attempt.proofs.Offered.{one-last, one-left}
-use Rattle.air_files.specs.DownloadDialogue.{Fetching, IsWord, asked, fetching_said, silent, told}
+use Rattle.ftl0_job.specs.Due.{next_due}
+use Rattle.air_files.proofs.Names.{⊤, CallSign, kind_of_item, Item, PacketValue, data_end, dl_ack_cmd, dl_nak_cmd, download_cmd, Lists, got_of, Ending, DownloadPhase, Work, Download, download_row, new_download, DuePacket, due_by, Row, JobState, item_row, job_after, new_job, row_of, JobEntry, after_losing, lost, packets_said, passed, said_in, took, OneIs, IsTaken, JobReaches, one-last, one-left, Fetching, IsWord, asked, fetching_said, silent, told}
 use Rattle.air_files.proofs.DownloadJobRows.{DownloadCases, download-cases, download_at}
 use Rattle.air_files.proofs.JobReach.{Stays, of-reached}
 use Rattle.air_files.proofs.JobUploadCame.{said-one}

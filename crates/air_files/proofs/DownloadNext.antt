@@ -1,22 +1,9 @@
 -- Which packet of a client of a download comes next to its session, by how far both have come.
 use Rattle.std.proofs.Common.{◌≡◌, ◌≢◌, inl, inr, ℕ, List, [], ◌∷◌, ◌++◌, map, refl, ap, sym, ◌∙◌, subst, ap₂}
-use Rattle.std.specs.Prelude.{Ok}
-use Rattle.std.specs.List.{AllByRecursion}
-use Rattle.ftl0_packets.specs.Layout.{Item, PacketValue, data_end, data_part, download_cmd}
 use Rattle.ftl0_server.specs.Entries as session
-use Rattle.ftl0_server.specs.Entries.{SessionEntry}
 use Rattle.ftl0_client.specs.Entries as job
-use Rattle.ftl0_client.specs.Entries.{JobEntry}
-use Rattle.air_attempt.specs.Attempt.{Attempt}
-use Rattle.air_attempt.specs.Laws.{ClientTookFront, ServerTookFront}
-use Rattle.air_attempt.specs.Lists.{AreFirstOf, Has}
-use Rattle.air_attempt.specs.Said.{Took}
-use Rattle.air_attempt.specs.Sides.{IsGreeting, ServerSide, said_by_client, said_by_server}
-use Rattle.air_attempt.proofs.Offered.{flat_map-one, one-left}
-use Rattle.air_files.specs.DownloadDialogue.{Fetching, IsFetchingFile, IsWord, SaysDownload, Sending, asked, ended}
-use Rattle.air_files.specs.DownloadDialogue.{fetching_said, refused, sending_items, sending_said, sends, silent, told}
-use Rattle.air_files.specs.DownloadDialogue.{unasked, waits}
-use Rattle.air_files.specs.UploadDialogue.{answered_in}
+use Rattle.air_files.specs.DownloadDialogue.{unasked}
+use Rattle.air_files.proofs.Names.{Ok, AllByRecursion, Item, PacketValue, data_end, data_part, download_cmd, SessionEntry, JobEntry, Attempt, ClientTookFront, ServerTookFront, AreFirstOf, Has, Took, IsGreeting, ServerSide, said_by_client, said_by_server, flat_map-one, one-left, Fetching, IsFetchingFile, IsWord, SaysDownload, Sending, asked, ended, fetching_said, refused, sending_items, sending_said, sends, silent, told, waits, answered_in}
 use Rattle.air_files.proofs.JobTook.{took-item}
 use Rattle.air_files.proofs.UploadNext.{answered-all}
 

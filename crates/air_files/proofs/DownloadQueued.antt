@@ -1,28 +1,10 @@
 -- A session of a download queues what is due: DATA with the next octets of the file, and then DATA_END.
 use Rattle.std.proofs.Common.{◌≡◌, ℕ, ◌+◌, ◌-◌, ◌≤◌, ◌<◌, min, List, [], ◌∷◌, ◌++◌, length, map, take, refl, ap, sym}
 use Rattle.std.proofs.Common.{◌∙◌, subst, Bool, false, Some, arith, append-nil, length-take}
-use Rattle.std.specs.Prelude.{Ok}
-use Rattle.std.specs.List.{concat}
-use Rattle.std.proofs.lemmas.List.{map-append}
-use Rattle.std.proofs.lemmas.List.Elements.{All-drop, All-take}
-use Rattle.px_base.specs.Octets.{IsOctets}
-use Rattle.ftl0_packets.specs.Layout.{Item, PacketValue, data_end, data_part, download_cmd}
-use Rattle.file_store.specs.Store.{Store}
-use Rattle.ftl0_session.specs.Downloads.Sending.{most_data}
-use Rattle.ftl0_session.specs.Run.{Session}
-use Rattle.ftl0_session.specs.Table.{DuePacket, State, command, next_due, sending, waiting}
-use Rattle.ftl0_session.proofs.downloads.FileLemmas.{file-complete}
+use Rattle.ftl0_session.specs.Table.{DuePacket}
 use Rattle.ftl0_server.specs.Entries as session
-use Rattle.ftl0_server.specs.Entries.{SessionEntry}
-use Rattle.air_attempt.specs.Attempt.{Attempt}
-use Rattle.air_attempt.specs.Laws.{ServerTookFront}
-use Rattle.air_attempt.specs.Lists.{AreFirstOf as AreFirstIn}
-use Rattle.air_attempt.specs.Party.{Party}
-use Rattle.air_attempt.specs.Sides.{ServerSide, said_by_client}
-use Rattle.air_attempt.proofs.Offered.{flat_map-one}
-use Rattle.air_files.specs.DownloadDialogue.{AreSent, AreSentFrom, IsSendingState, Sending, ended, refused}
-use Rattle.air_files.specs.DownloadDialogue.{sending_items, sending_said, sends, unasked, waits}
-use Rattle.air_files.specs.UploadDialogue.{answered_by, answered_in}
+use Rattle.air_files.specs.DownloadDialogue.{unasked}
+use Rattle.air_files.proofs.Names.{Ok, concat, map-append, All-drop, All-take, IsOctets, Item, PacketValue, data_end, data_part, download_cmd, Store, most_data, Session, State, command, next_due, sending, waiting, file-complete, SessionEntry, Attempt, ServerTookFront, AreFirstOf as AreFirstIn, Party, ServerSide, said_by_client, flat_map-one, AreSent, AreSentFrom, IsSendingState, Sending, ended, refused, sending_items, sending_said, sends, waits, answered_by, answered_in}
 use Rattle.air_files.proofs.DownloadComing.{comes-data}
 use Rattle.air_files.proofs.DownloadDue.{all-sent, due-then, left-is, left_then, more-sent, place-more, place-within}
 use Rattle.air_files.proofs.DownloadDue.{place_then, rest_due}

@@ -1,14 +1,7 @@
 -- What a job that fetched a file reached and said.
 use Rattle.std.proofs.Common.{◌≡◌, ℕ, refl, Option, None, Some}
-use Rattle.px_base.specs.CallSign.{CallSign}
-use Rattle.ax25_link.specs.declared.state.Why.{Why}
-use Rattle.ftl0_job.specs.declared.ending.Ending.{Ending}
 use Rattle.ftl0_job.specs.declared.ending.Outcome.TheVariants as outcome
-use Rattle.ftl0_job.specs.Table.{JobState}
-use Rattle.ftl0_client.specs.Attempt.Attempted.{outcome_by}
-use Rattle.ftl0_client.specs.declared.attempt.outcome.AttemptOutcome.TheVariants.{Reached}
-use Rattle.air_attempt.specs.Sides.{ClientSide}
-use Rattle.air_files.specs.DownloadDialogue.{Fetching, IsFetchingFile, SaysDownload, asked, silent, told}
+use Rattle.air_files.proofs.Names.{CallSign, Why, Ending, JobState, outcome_by, Reached, ClientSide, Fetching, IsFetchingFile, SaysDownload, asked, silent, told}
 use Rattle.air_files.proofs.DownloadJobSaid.{DoesDownload, Told}
 
 -- the outcome of an attempt that a file was fetched is its job's

@@ -1,19 +1,9 @@
 -- The rows of a session of a download: of DOWNLOAD_CMD, and of the word on the file (FTL0 1990, downloading).
 use Rattle.std.proofs.Common.{◌≡◌, ◌≢◌, inl, inr, ℕ, ◌≤◌, ◌==◌, List, [], ◌∷◌, length, refl, ap, ◌∙◌, false, Option}
 use Rattle.std.proofs.Common.{None, Some, arith}
-use Rattle.std.specs.Prelude.{Ok, nat_lt}
-use Rattle.std.proofs.lemmas.Bool.Decides.{nat_tests}
-use Rattle.px_base.specs.CallSign.{CallSign}
-use Rattle.ftl0_packets.specs.Layout.{PacketValue, dl_aborted_resp, dl_ack_cmd, dl_completed_resp, dl_error_resp}
-use Rattle.ftl0_packets.specs.Layout.{dl_nak_cmd, download_cmd}
-use Rattle.file_store.specs.Store.{Store}
-use Rattle.ftl0_session.specs.DownloadLaws.{DownloadsLaw}
 use Rattle.ftl0_session.specs.Downloads.Table as download
-use Rattle.ftl0_session.specs.Downloads.Table.{DownloadRow, asked_file, asked_row, ended_row, file_of, file_row}
-use Rattle.ftl0_session.specs.Downloads.Table.{lists_after, refused_row}
-use Rattle.ftl0_session.specs.Lists.Lists.{CallerList}
-use Rattle.ftl0_session.specs.Table.{Row, by_download, command, sending, session_row, waiting}
-use Rattle.air_files.specs.DownloadDialogue.{IsLast, IsWord}
+use Rattle.ftl0_session.specs.Table.{Row}
+use Rattle.air_files.proofs.Names.{Ok, nat_lt, nat_tests, CallSign, PacketValue, dl_aborted_resp, dl_ack_cmd, dl_completed_resp, dl_error_resp, dl_nak_cmd, download_cmd, Store, DownloadsLaw, DownloadRow, asked_file, asked_row, ended_row, file_of, file_row, lists_after, refused_row, CallerList, by_download, command, sending, session_row, waiting, IsLast, IsWord}
 
 -- the row of a command that is refused with this code
 abbrev pub refusal : List CallerList → ℕ → Row

@@ -1,32 +1,11 @@
 -- A session of a download goes on by one entry (FTL0 1990, downloading).
 use Rattle.std.proofs.Common.{◌≡◌, ◌≢◌, inl, inr, ℕ, ◌≤◌, List, [], ◌∷◌, ◌++◌, length, map, drop, refl, ap, sym, ◌∙◌}
 use Rattle.std.proofs.Common.{subst, Bool, true, Some, arith, append_assoc, append-nil, add-zero}
-use Rattle.std.specs.Prelude.{Ok}
-use Rattle.std.specs.List.{AllByRecursion}
-use Rattle.std.proofs.lemmas.List.Elements.{All-nil}
-use Rattle.px_base.specs.Octets.{IsOctets}
-use Rattle.ftl0_packets.specs.Layout.{Fits, Item, PacketValue, data_end, data_part, download_cmd}
 use Rattle.file_store.specs.Command.{after_all}
-use Rattle.file_store.specs.Store.{Store}
-use Rattle.ftl0_session.specs.Downloads.Needs.{IsDueIn}
-use Rattle.ftl0_session.specs.Downloads.Sending.{octets_due}
-use Rattle.ftl0_session.specs.Downloads.Table.{file_of}
-use Rattle.ftl0_session.specs.Run.{Session}
-use Rattle.ftl0_session.specs.Table.{Row, State, command, download_part, sending, waiting}
+use Rattle.ftl0_session.specs.Table.{Row}
 use Rattle.ftl0_server.specs.Entries as session
-use Rattle.ftl0_server.specs.Entries.{SessionEntry, after_row}
-use Rattle.air_attempt.specs.Attempt.{Attempt}
-use Rattle.air_attempt.specs.Laws.{ClientTookFront}
-use Rattle.air_attempt.specs.Lists.{Has}
-use Rattle.air_attempt.specs.Party.{Party}
-use Rattle.air_attempt.specs.Said.{octets_said}
-use Rattle.air_attempt.specs.Sides.{IsGreeting, ServerSide, said_by_client, said_by_server}
-use Rattle.air_attempt.proofs.Offered.{flat_map-one}
-use Rattle.air_files.specs.Dialogue.{IsDueNow}
-use Rattle.air_files.specs.DownloadDialogue.{AreSent, IsLast, IsWord, SaysDownload, Sending, ServesDownload, ended}
-use Rattle.air_files.specs.DownloadDialogue.{refused, sending_items, sending_said, sends, unasked, waits}
-use Rattle.air_files.specs.SoundStore.{IsSoundStore}
-use Rattle.air_files.specs.UploadDialogue.{answered_by, answered_in}
+use Rattle.air_files.specs.DownloadDialogue.{unasked}
+use Rattle.air_files.proofs.Names.{Ok, AllByRecursion, All-nil, IsOctets, Fits, Item, PacketValue, data_end, data_part, download_cmd, Store, IsDueIn, octets_due, file_of, Session, State, command, download_part, sending, waiting, SessionEntry, after_row, Attempt, ClientTookFront, Has, Party, octets_said, IsGreeting, ServerSide, said_by_client, said_by_server, flat_map-one, IsDueNow, AreSent, IsLast, IsWord, SaysDownload, Sending, ServesDownload, ended, refused, sending_items, sending_said, sends, waits, IsSoundStore, answered_by, answered_in}
 use Rattle.air_files.proofs.DownloadRows.{last_row, refusal, sending_row}
 use Rattle.air_files.proofs.FetchesOn.{ComesOn, comes-silent}
 use Rattle.air_files.proofs.FileOctets.{due-sending}

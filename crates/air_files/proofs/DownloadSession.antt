@@ -1,32 +1,10 @@
 -- One entry of a session of a download keeps its client's facts.
 use Rattle.std.proofs.Common.{◌≡◌, ◌≢◌, inl, inr, ℕ, ◌+◌, ◌≤◌, List, [], ◌∷◌, length, map, refl, ap, sym, ◌∙◌, subst}
 use Rattle.std.proofs.Common.{Bool, true, Option, Some, arith, length-append, append-nil}
-use Rattle.std.specs.Prelude.{IfSome}
-use Rattle.std.specs.List.{AllByRecursion}
-use Rattle.ftl0_packets.specs.Layout.{Fits, PacketValue, data_end, data_part, download_cmd}
-use Rattle.file_store.specs.Store.{Store}
-use Rattle.ftl0_session.specs.DownloadLaws.{DownloadsLaw}
-use Rattle.ftl0_session.specs.Downloads.Needs.{AreComplete}
-use Rattle.ftl0_session.specs.Downloads.Table.{file_of}
-use Rattle.ftl0_session.specs.Run.{Session}
-use Rattle.ftl0_session.specs.Table.{State, receiving}
 use Rattle.ftl0_server.specs.Entries as session
-use Rattle.ftl0_server.specs.Entries.{SessionEntry}
-use Rattle.ftl0_job.specs.declared.work.Work.{Work}
 use Rattle.ftl0_job.specs.declared.work.Work.TheVariants as work
-use Rattle.ftl0_job.specs.Download.{Download}
-use Rattle.air_attempt.specs.Attempt.{Attempt}
-use Rattle.air_attempt.specs.Lists.{Has}
-use Rattle.air_attempt.specs.Party.{Asked, EachAttempt, Party}
-use Rattle.air_attempt.specs.Sides.{ServerSide, said_by_client}
-use Rattle.air_attempt.proofs.Offered.{each-append}
-use Rattle.air_files.specs.Dialogue.{Says, Serves}
-use Rattle.air_files.specs.DownloadDialogue.{AreSent, IsLast, IsSendingState, Sending, ServesDownload, ended, refused}
-use Rattle.air_files.specs.DownloadDialogue.{sending_said, sends, unasked, waits}
-use Rattle.air_files.specs.Facts.{AskedWithin, got}
-use Rattle.air_files.specs.Laws.{IsDownloadOf, IsOne, IsServed, SessionGoes, SessionKeeps, SessionLawOf, session_gone}
-use Rattle.air_files.specs.Laws.{with_attempt}
-use Rattle.air_files.specs.Tasks.{IsWork}
+use Rattle.air_files.specs.DownloadDialogue.{unasked}
+use Rattle.air_files.proofs.Names.{IfSome, AllByRecursion, Fits, PacketValue, data_end, data_part, download_cmd, Store, DownloadsLaw, AreComplete, file_of, Session, State, receiving, SessionEntry, Work, Download, Attempt, Has, Asked, EachAttempt, Party, ServerSide, said_by_client, each-append, Says, Serves, AreSent, IsLast, IsSendingState, Sending, ServesDownload, ended, refused, sending_said, sends, waits, AskedWithin, got, IsDownloadOf, IsOne, IsServed, SessionGoes, SessionKeeps, SessionLawOf, session_gone, with_attempt, IsWork}
 use Rattle.air_files.proofs.DownloadComing.{front-if-any}
 use Rattle.air_files.proofs.DownloadEntry.{keeps-entry}
 use Rattle.air_files.proofs.DownloadServed.{IsDownloading, KeepsDownload}

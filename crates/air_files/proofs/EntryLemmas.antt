@@ -1,25 +1,8 @@
 -- One more entry of a session: what it says, what it answers, and what its row's commands leave.
 use Rattle.std.proofs.Common.{◌≡◌, ◌⊎◌, inl, inr, ℕ, suc, zero, List, [], ◌∷◌, ◌++◌, length, drop, take, refl, ap, sym, ◌∙◌, subst, Bool, Some}
-use Rattle.std.specs.List.{AllByRecursion}
-use Rattle.px_base.specs.CallSign.{CallSign, IsCall}
-use Rattle.ftl0_packets.specs.Layout.{Item, PacketValue}
-use Rattle.file_entries.specs.Follows.{AreOf, BringsOctets, FollowsBy, IsOf, KeepsEntries}
-use Rattle.file_entries.proofs.Offered.{AreAllowed-first, follows_law}
-use Rattle.file_store.specs.Command.{AreAllowed, Command, DropsNothing, HasCall, HaveCalls, after, begin, drop_entry, grow, seal}
-use Rattle.file_store.specs.OnDisk.{after_first}
-use Rattle.file_store.specs.Store.{Store}
-use Rattle.ftl0_session.specs.Table.{State}
 use Rattle.ftl0_server.specs.Entries as session
-use Rattle.ftl0_server.specs.Entries.{SessionEntry}
 use Rattle.ftl0_client.specs.Entries as job
-use Rattle.air_attempt.specs.Attempt.{Attempt}
-use Rattle.air_attempt.specs.Lists.{Has, OneIs}
-use Rattle.air_attempt.specs.Said.{Answers, IsAnswer, octets_of_data, octets_said}
-use Rattle.air_attempt.specs.Sides.{ServerSide, said_by_server}
-use Rattle.air_attempt.proofs.Offered.{flat_map-one, one-cases, one-left, one-right}
-use Rattle.air_files.specs.Facts.{coming_by}
-use Rattle.air_files.specs.SoundStore.{IsSoundStore}
-use Rattle.air_files.specs.UploadDialogue.{answered_by, answered_in}
+use Rattle.air_files.proofs.Names.{AllByRecursion, CallSign, IsCall, Item, PacketValue, AreOf, BringsOctets, FollowsBy, IsOf, KeepsEntries, AreAllowed-first, follows_law, AreAllowed, Command, DropsNothing, HasCall, HaveCalls, after, begin, drop_entry, grow, seal, after_first, Store, State, SessionEntry, Attempt, Has, OneIs, Answers, IsAnswer, octets_of_data, octets_said, ServerSide, said_by_server, flat_map-one, one-cases, one-left, one-right, coming_by, IsSoundStore, answered_by, answered_in}
 use Rattle.air_files.proofs.StoreLemmas.{sound-kept}
 
 -- ---- lists of entries

@@ -1,26 +1,11 @@
 -- What a client fetches goes on with what its session says.
 use Rattle.std.proofs.Common.{◌≡◌, ℕ, zero, suc, ◌+◌, ◌≤◌, List, [], ◌∷◌, ◌++◌, length, map, drop, refl, ap, sym, ◌∙◌}
 use Rattle.std.proofs.Common.{subst, Option, None, Some, arith, length-append, append-nil}
-use Rattle.std.specs.Prelude.{IfSome, Ok, slice_get}
 use Rattle.std.proofs.lemmas.Grind.{flat_map-append}
-use Rattle.std.proofs.lemmas.List.{drop-append-le, length-map}
-use Rattle.ftl0_packets.specs.Layout.{Item, PacketValue}
-use Rattle.file_store.specs.Store.{Store}
-use Rattle.ftl0_job.specs.declared.ending.Ending.{Ending}
-use Rattle.ftl0_job.specs.declared.phases.DownloadPhase.{DownloadPhase}
 use Rattle.ftl0_job.specs.declared.phases.DownloadPhase.TheVariants as fetch
-use Rattle.ftl0_job.specs.declared.work.Work.{Work}
 use Rattle.ftl0_job.specs.declared.work.Work.TheVariants as work
-use Rattle.ftl0_job.specs.Download.{Download}
 use Rattle.ftl0_client.specs.Entries as job
-use Rattle.air_attempt.specs.Attempt.{Attempt}
-use Rattle.air_attempt.specs.Laws.{ClientTookFront}
-use Rattle.air_attempt.specs.Lists.{AreFirstOf as AreFirstIn}
-use Rattle.air_attempt.specs.Party.{Party}
-use Rattle.air_attempt.specs.Said.{octets_of_data, octets_of_item, octets_said, octets_taken}
-use Rattle.air_attempt.specs.Sides.{ServerSide, said_by_server}
-use Rattle.air_files.specs.Facts.{AreFirstIfAny, Fetches, FetchesBy, FetchesIn, IsFetching, coming_by, got}
-use Rattle.air_files.specs.Laws.{with_attempt}
+use Rattle.air_files.proofs.Names.{IfSome, Ok, slice_get, drop-append-le, length-map, Item, PacketValue, Store, Ending, DownloadPhase, Work, Download, Attempt, ClientTookFront, AreFirstOf as AreFirstIn, Party, octets_of_data, octets_of_item, octets_said, octets_taken, ServerSide, said_by_server, AreFirstIfAny, Fetches, FetchesBy, FetchesIn, IsFetching, coming_by, got, with_attempt}
 
 -- ---- lists
 

@@ -1,17 +1,7 @@
 -- The octets of a complete file of a sound store, and of what is due of it.
 use Rattle.std.proofs.Common.{◌≡◌, ℕ, ◌-◌, ◌≤◌, ◌<◌, ◌==◌, List, length, take, drop, refl, ap, sym, subst, Option, None}
 use Rattle.std.proofs.Common.{Some, arith}
-use Rattle.std.proofs.lemmas.List.Elements.{All-drop, All-nil, All-take}
-use Rattle.px_base.specs.Octets.{IsOctets}
-use Rattle.file_store.specs.Store.{Entry, Store, entry_of, octets_at, octets_of}
-use Rattle.ftl0_session.specs.Downloads.Needs.{IsDueIn, LiesIn}
-use Rattle.ftl0_session.specs.Downloads.Table.{file_of, octets_in}
-use Rattle.ftl0_session.specs.Downloads.Sending.{octets_due}
-use Rattle.ftl0_session.specs.Table.{State, download_part, sending}
-use Rattle.ftl0_session.proofs.downloads.FileLemmas.{file-complete}
-use Rattle.air_attempt.specs.Sides.{ServerSide}
-use Rattle.air_files.specs.Dialogue.{IsDueNow}
-use Rattle.air_files.specs.SoundStore.{IsSoundStore}
+use Rattle.air_files.proofs.Names.{All-drop, All-nil, All-take, IsOctets, Entry, Store, entry_of, octets_at, octets_of, IsDueIn, LiesIn, file_of, octets_in, octets_due, State, download_part, sending, file-complete, ServerSide, IsDueNow, IsSoundStore}
 use Rattle.air_files.proofs.StoreLemmas.{found-such}
 
 pub octets-entry : (store : Store) (number : ℕ) → IsSoundStore store → IsOctets (octets_in store number)

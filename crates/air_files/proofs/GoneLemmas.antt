@@ -2,28 +2,9 @@
 -- may be over, and which has no other link, has the same facts.
 use Rattle.std.proofs.Common.{◌≡◌, ℕ, List, [], ◌∷◌, ◌++◌, length, refl, ap, sym, ◌∙◌, subst, Option, None, Some, Ok}
 use Rattle.std.proofs.Common.{inl, inr}
-use Rattle.std.specs.Prelude.{IfSome, slice_get}
-use Rattle.std.specs.List.{AllByRecursion}
-use Rattle.std.specs.Option.{option_map}
-use Rattle.std.proofs.lemmas.Option.{same_Some}
-use Rattle.ftl0_packets.specs.Layout.{ul_go_resp, upload_cmd}
-use Rattle.file_store.specs.Store.{Store}
-use Rattle.ftl0_server.specs.Entries.{SessionEntry}
-use Rattle.ftl0_job.specs.declared.ending.Ending.{Ending}
-use Rattle.ftl0_job.specs.declared.phases.DownloadPhase.{DownloadPhase}
 use Rattle.ftl0_job.specs.declared.phases.DownloadPhase.TheVariants as fetch
-use Rattle.ftl0_job.specs.declared.work.Work.{Work}
 use Rattle.ftl0_job.specs.declared.work.Work.TheVariants as work
-use Rattle.ftl0_job.specs.Download.{Download}
-use Rattle.ftl0_client.specs.Attempt.Attempted.{Attempted}
-use Rattle.air_attempt.specs.Attempt.{Attempt}
-use Rattle.air_attempt.specs.Lists.{OneIs}
-use Rattle.air_attempt.specs.Party.{Asked, Party, all_over, over, sessions_over}
-use Rattle.air_attempt.specs.Said.{IsAnswer}
-use Rattle.air_attempt.specs.Sides.{ServerSide}
-use Rattle.air_files.specs.Facts.{AreFirstIfAny, Fetches, FetchesBy, FetchesIn, HasFacts, IsFetching, IsGranted}
-use Rattle.air_files.specs.Facts.{IsNumbered, coming_by, got}
-use Rattle.air_files.specs.Laws.{IsSameParty, LookLike, LooksLike, LooksServed, started_with}
+use Rattle.air_files.proofs.Names.{IfSome, slice_get, AllByRecursion, option_map, same_Some, ul_go_resp, upload_cmd, Store, SessionEntry, Ending, DownloadPhase, Work, Download, Attempted, Attempt, OneIs, Asked, Party, all_over, over, sessions_over, IsAnswer, ServerSide, AreFirstIfAny, Fetches, FetchesBy, FetchesIn, HasFacts, IsFetching, IsGranted, IsNumbered, coming_by, got, IsSameParty, LookLike, LooksLike, LooksServed, started_with}
 use Rattle.air_files.proofs.ApartLemmas.{HasClientFacts, HasFactsApart, HasSideFacts, apart, together}
 use Rattle.air_files.proofs.LikeLemmas.{attempt-same, like, like-client, like-side, like_attempt, number-like}
 use Rattle.air_files.proofs.LikeLemmas.{party-same, side-same}

@@ -1,17 +1,7 @@
 -- What a client's facts become where its newest session goes on, over the store after its commands.
 use Rattle.std.proofs.Common.{◌≡◌, inl, inr, ℕ, List, [], ◌∷◌, length, refl, sym, ◌∙◌, subst, arith, false, Option}
 use Rattle.std.proofs.Common.{None, Some}
-use Rattle.std.specs.Prelude.{IfSome, slice_get}
-use Rattle.std.specs.List.{AllByRecursion}
-use Rattle.std.proofs.lemmas.Option.{same_Some}
-use Rattle.file_store.specs.Store.{Store}
-use Rattle.air_attempt.specs.Attempt.{Attempt}
-use Rattle.air_attempt.specs.Lists.{OneIs}
-use Rattle.air_attempt.specs.Party.{AreOver, Asked, IsFileOf, Party}
-use Rattle.air_attempt.specs.Said.{Grants}
-use Rattle.air_attempt.specs.Sides.{ServerSide}
-use Rattle.air_files.specs.Facts.{HasFacts, HasNumber, IsFetching, IsGranted, IsNumbered, coming_by, got}
-use Rattle.air_files.specs.Laws.{with_attempt}
+use Rattle.air_files.proofs.Names.{IfSome, slice_get, AllByRecursion, same_Some, Store, Attempt, OneIs, AreOver, Asked, IsFileOf, Party, Grants, ServerSide, HasFacts, HasNumber, IsFetching, IsGranted, IsNumbered, coming_by, got, with_attempt}
 use Rattle.air_files.proofs.ApartLemmas.{HasClientFacts, HasSideFacts, apart, together}
 use Rattle.air_files.proofs.LikeLemmas.{like-client, like-side, number-like}
 use Rattle.air_files.proofs.MovedLemmas.{GrantsBegun, MovesTo, fetching-as, side-moved}

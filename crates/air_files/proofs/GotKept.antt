@@ -2,27 +2,10 @@
 use Rattle.std.proofs.Common.{◌≡◌, ◌≢◌, ⊎_elim, ℕ, zero, suc, ◌+◌, ◌*◌, ◌/◌, ◌≤◌, ◌==◌, List, [], ◌∷◌, ◌++◌, length}
 use Rattle.std.proofs.Common.{map, take, drop, refl, ap, sym, ◌∙◌, subst, ◌&&◌, Bool, true, false, None, Some, arith}
 use Rattle.std.proofs.Common.{append_assoc, append-nil, length-append, take-append-drop}
-use Rattle.std.specs.List.{concat}
-use Rattle.std.proofs.lemmas.Bool.Decides.{eqb_tells, nat_tests}
-use Rattle.std.proofs.lemmas.List.{drop-drop, nil_from_length}
-use Rattle.px_base.specs.CallSign.{CallSign}
-use Rattle.px_base.specs.Octets.{IsFront, IsOctets}
 use Rattle.ftl0_packets.proofs.SplitLemmas.{octets_front}
-use Rattle.pfh_items.specs.Faults.{IsFaultless, fault_code}
-use Rattle.pfh_items.proofs.Offered.{no_fault, no_front}
-use Rattle.pfh_writer.proofs.StampedLemmas.{no_fault-code}
-use Rattle.file_store.specs.Store.{Store}
-use Rattle.ftl0_session.specs.Downloads.Table.{file_of}
-use Rattle.ftl0_session.proofs.downloads.FileLemmas.{file-complete}
-use Rattle.client_notes.specs.Command.{NotesCommand, after, got as got_command}
-use Rattle.client_notes.specs.Laws.{after_all}
-use Rattle.client_notes.specs.Notes.{GotFile, Lists, got_of, is_same_call}
+use Rattle.client_notes.specs.Command.{after, got as got_command}
 use Rattle.client_notes.specs.Several as notes
-use Rattle.client_notes.proofs.Offered.{got-append, tasks_law}
-use Rattle.ftl0_job.specs.Download.{gots, last_got, unnoted, whole_gots}
-use Rattle.air_attempt.specs.Party.{Asked, Party}
-use Rattle.air_files.specs.Facts.{AreFirstIfAny, HasFacts, HasNumber, got}
-use Rattle.air_files.specs.SoundStore.{IsSoundStore}
+use Rattle.air_files.proofs.Names.{concat, eqb_tells, nat_tests, drop-drop, nil_from_length, CallSign, IsFront, IsOctets, IsFaultless, fault_code, no_fault, no_front, no_fault-code, Store, file_of, file-complete, NotesCommand, after_all, GotFile, Lists, got_of, is_same_call, got-append, tasks_law, gots, last_got, unnoted, whole_gots, Asked, Party, AreFirstIfAny, HasFacts, HasNumber, got, IsSoundStore}
 use Rattle.air_files.proofs.FileOctets.{octets-entry}
 use Rattle.air_files.proofs.JobNotes.{NotesKept, NumberIn}
 use Rattle.air_files.proofs.ShortOctets.{whole-fault}

@@ -2,19 +2,8 @@
 use Rattle.std.proofs.Common.{◌≡◌, ◌≢◌, ◌⊎◌, inl, inr, ℕ, suc, zero, ◌+◌, ◌*◌, ◌/◌, ◌≤◌, ◌<◌, ◌==◌, true, false, List}
 use Rattle.std.proofs.Common.{[], ◌∷◌, ◌++◌, length, take, drop, refl, ap, sym, ◌∙◌, subst, arith, length-append}
 use Rattle.std.proofs.Common.{Option, None, Some}
-use Rattle.std.specs.Prelude.{find, IsTrue}
-use Rattle.std.proofs.lemmas.Bool.Decides.{Decides-eqb, nat_tests}
-use Rattle.std.proofs.lemmas.List.{take_all}
-use Rattle.px_base.specs.CallSign.{CallSign}
-use Rattle.pfh_items.specs.Faults.{fault_code}
-use Rattle.file_entries.proofs.Offered.{AreAllowed-append, grows-allowed, last_grow-allowed}
-use Rattle.file_store.specs.Command.{AreAllowed, Command, after, after_all, begin, grow, grown, grows, is_good}
-use Rattle.file_store.specs.Command.{last_grow, passes, seal, sealed, whole_grows, with_holding, with_more}
-use Rattle.file_store.specs.IsStore.{IsStore}
-use Rattle.file_store.specs.OnDisk.{after_first}
-use Rattle.file_store.specs.Store.{Entry, Holding, Store, entry_of, new_entry, partial}
-use Rattle.file_store.proofs.Offered.{after_all-append, find-map-changed, find-map-changed_other, find-push, find_past}
-use Rattle.file_store.proofs.Offered.{grows-after, has_number, last_grow-after}
+use Rattle.file_store.specs.Command.{after_all}
+use Rattle.air_files.proofs.Names.{find, IsTrue, Decides-eqb, nat_tests, take_all, CallSign, fault_code, AreAllowed-append, grows-allowed, last_grow-allowed, AreAllowed, Command, after, begin, grow, grown, grows, is_good, last_grow, passes, seal, sealed, whole_grows, with_holding, with_more, IsStore, after_first, Entry, Holding, Store, entry_of, new_entry, partial, after_all-append, find-map-changed, find-map-changed_other, find-push, find_past, grows-after, has_number, last_grow-after}
 
 -- ---- the first of the commands
 

@@ -1,39 +1,12 @@
 -- Any entries of a job keep its client's facts, since each one does.
 use Rattle.std.proofs.Common.{◌≡◌, ◌⊎◌, ℕ, ◌+◌, ◌-◌, ◌<◌, ◌≤◌, List, [], ◌∷◌, ◌++◌, length, take, map, Some, inl, inr}
 use Rattle.std.proofs.Common.{refl, sym, ◌∙◌, ap, subst, append_assoc, append-nil, take_all, le_refl, le_of_lt, arith}
-use Rattle.std.specs.Prelude.{⊤}
-use Rattle.std.proofs.lemmas.Bool.{cases_lt}
-use Rattle.std.proofs.lemmas.List.{map-append, take-append-le}
-use Rattle.std.proofs.lemmas.List.Concat.{flat_map-append}
-use Rattle.ftl0_packets.specs.Items.{kind_of_item}
-use Rattle.ftl0_packets.specs.Layout.{Item}
-use Rattle.file_store.specs.Store.{Store}
 use Rattle.ftl0_server.specs.Entries as session
-use Rattle.client_notes.specs.Command.{NotesCommand}
-use Rattle.client_notes.specs.Laws.{after_all}
-use Rattle.client_notes.specs.Notes.{Lists}
 use Rattle.client_notes.specs.Several as notes
-use Rattle.client_notes.proofs.Offered.{after_first-then}
-use Rattle.ftl0_job.specs.declared.ending.Outcome.{Outcome}
-use Rattle.ftl0_job.specs.declared.work.Work.{Work}
 use Rattle.ftl0_job.specs.declared.work.Work.TheVariants as work
 use Rattle.ftl0_job.specs.Laws.{DueLaw, PromisesLaw}
-use Rattle.ftl0_job.specs.Promises.{EndPromises, JobStands}
-use Rattle.ftl0_job.specs.Row.{Row, strange_ending}
-use Rattle.ftl0_job.specs.Table.{JobState, job_after, new_job}
-use Rattle.ftl0_client.specs.Attempt.Attempted.{Attempted, outcome_of}
-use Rattle.ftl0_client.specs.declared.attempt.outcome.AttemptOutcome.TheVariants.{Reached}
 use Rattle.ftl0_client.specs.Entries as job
-use Rattle.ftl0_client.specs.Entries.{GoesBy, JobEntry, after_losing, lost, passed, queued, took}
-use Rattle.air_attempt.specs.Attempt.{Attempt}
-use Rattle.air_attempt.specs.Lists.{AreFirstOf}
-use Rattle.air_attempt.specs.Party.{Asked, Party}
-use Rattle.air_attempt.specs.Sides.{ServerSide, said_by_client, said_by_server}
-use Rattle.air_attempt.proofs.Offered.{each-weaker, reaches-by, reaches-then}
-use Rattle.air_files.specs.Facts.{HasFacts}
-use Rattle.air_files.specs.Laws.{IsDirectoryOf, IsDownloadOf, IsUploadOf, JobKeeps, JobLaw, JobTookFront, Stands}
-use Rattle.air_files.specs.Laws.{TookFront, job_gone, started_with, with_job}
-use Rattle.air_files.specs.Tasks.{IsWork}
+use Rattle.air_files.proofs.Names.{⊤, cases_lt, map-append, take-append-le, flat_map-append, kind_of_item, Item, Store, NotesCommand, after_all, Lists, after_first-then, Outcome, Work, EndPromises, JobStands, Row, strange_ending, JobState, job_after, new_job, Attempted, outcome_of, Reached, GoesBy, JobEntry, after_losing, lost, passed, queued, took, Attempt, AreFirstOf, Asked, Party, ServerSide, said_by_client, said_by_server, each-weaker, reaches-by, reaches-then, HasFacts, IsDirectoryOf, IsDownloadOf, IsUploadOf, JobKeeps, JobLaw, JobTookFront, Stands, TookFront, job_gone, started_with, with_job, IsWork}
 use Rattle.air_files.proofs.JobChange.{moved}
 use Rattle.air_files.proofs.JobEarlier.{earlier, outcome-stays}
 use Rattle.air_files.proofs.JobNotes.{NotesKept}

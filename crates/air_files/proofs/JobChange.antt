@@ -1,23 +1,7 @@
 -- What of a client's facts changes with its notes and its current attempt, over the same store.
 use Rattle.std.proofs.Common.{◌≡◌, ℕ, ◌+◌, List, ◌∷◌, true, Option, None, Some, refl}
-use Rattle.std.specs.Prelude.{IfSome}
-use Rattle.std.specs.List.{AllByRecursion}
-use Rattle.file_store.specs.Store.{Store}
-use Rattle.ftl0_session.specs.Table.{receiving}
-use Rattle.client_notes.specs.Notes.{Lists}
-use Rattle.ftl0_client.specs.Attempt.Attempted.{Attempted}
 use Rattle.ftl0_client.specs.Client.{Refused}
-use Rattle.ftl0_client.specs.Entries.{JobEntry}
-use Rattle.air_attempt.specs.Attempt.{Attempt}
-use Rattle.air_attempt.specs.Party.{Asked, IsFileOf, Party}
-use Rattle.air_attempt.specs.Said.{AsksUpload, octets_come, said_behind_server}
-use Rattle.air_attempt.specs.Sides.{ServerSide}
-use Rattle.air_attempt.proofs.Offered.{each-weaker}
-use Rattle.air_files.specs.Dialogue.{Says}
-use Rattle.air_files.specs.Facts.{AreFirstIfAny, AskedWithin, GoesOnWithTask, HasFacts, HasFetched, HasNumber}
-use Rattle.air_files.specs.Facts.{IsFetching, IsGrantKept, IsNumbered, NotesGrant, Receives, got}
-use Rattle.air_files.specs.Kept.{HoldsAck, IsTaskKept}
-use Rattle.air_files.specs.UploadDialogue.{GoesOnWith}
+use Rattle.air_files.proofs.Names.{IfSome, AllByRecursion, Store, receiving, Lists, Attempted, JobEntry, Attempt, Asked, IsFileOf, Party, AsksUpload, octets_come, said_behind_server, ServerSide, each-weaker, Says, AreFirstIfAny, AskedWithin, GoesOnWithTask, HasFacts, HasFetched, HasNumber, IsFetching, IsGrantKept, IsNumbered, NotesGrant, Receives, got, HoldsAck, IsTaskKept, GoesOnWith}
 use Rattle.air_files.proofs.ReceivesAs.{receives-as}
 
 -- the client with these notes, this link, this DM to be sent and these attempts

@@ -1,27 +1,10 @@
 -- What holds of a client whose job went on by an entry holds of it as it was before, with the newer notes.
 use Rattle.std.proofs.Common.{◌≡◌, ℕ, ◌+◌, List, [], ◌∷◌, ◌++◌, length, drop, Option, None, Some, refl, sym, ◌∙◌, ap}
 use Rattle.std.proofs.Common.{subst, suc, zero}
-use Rattle.ftl0_packets.specs.Layout.{PacketValue, data_end, data_part, download_cmd, ul_go_resp}
-use Rattle.ax25_link.specs.declared.state.Why.{Why}
-use Rattle.file_store.specs.Store.{Store}
 use Rattle.ftl0_server.specs.Entries as session
-use Rattle.client_notes.specs.Notes.{Lists}
-use Rattle.ftl0_job.specs.declared.ending.Ending.{Ending}
-use Rattle.ftl0_job.specs.declared.ending.Outcome.{Outcome}
 use Rattle.ftl0_job.specs.declared.ending.Outcome.TheVariants as outcome
-use Rattle.ftl0_job.specs.Table.{JobState}
-use Rattle.ftl0_client.specs.Attempt.Attempted.{Attempted, outcome_by, outcome_of}
-use Rattle.ftl0_client.specs.declared.attempt.outcome.AttemptOutcome.TheVariants.{LinkDown, Reached}
 use Rattle.ftl0_client.specs.Entries as job
-use Rattle.ftl0_client.specs.Entries.{GoesBy, JobEntry, lost, passed, queued, took}
-use Rattle.air_attempt.specs.Attempt.{Attempt}
-use Rattle.air_attempt.specs.Lists.{Has}
-use Rattle.air_attempt.specs.Party.{Asked, Party}
-use Rattle.air_attempt.specs.Said.{IsTaken, octets_come}
-use Rattle.air_attempt.proofs.Offered.{due-none, one-left}
-use Rattle.air_files.specs.Facts.{HasFacts, HasNumber}
-use Rattle.air_files.specs.Laws.{job_gone, started_with}
-use Rattle.air_files.specs.UploadDialogue.{GoesOnWith}
+use Rattle.air_files.proofs.Names.{PacketValue, data_end, data_part, download_cmd, ul_go_resp, Why, Store, Lists, Ending, Outcome, JobState, Attempted, outcome_by, outcome_of, LinkDown, Reached, GoesBy, JobEntry, lost, passed, queued, took, Attempt, Has, Asked, Party, IsTaken, octets_come, due-none, one-left, HasFacts, HasNumber, job_gone, started_with, GoesOnWith}
 use Rattle.air_files.proofs.JobChange.{change}
 use Rattle.air_files.proofs.JobStep.{of_attempts}
 use Rattle.air_files.proofs.JobTook.{whole}

@@ -1,24 +1,11 @@
 -- What commands of a client's notes keep of its tasks and of the files that it got, over the same store.
 use Rattle.std.proofs.Common.{◌≡◌, ◌≢◌, ℕ, ◌-◌, ◌≤◌, Bool, true, false, List, length, Option, None, Some, refl, sym}
 use Rattle.std.proofs.Common.{◌∙◌, ap, subst, arith, le_refl, ⊎_elim}
-use Rattle.std.specs.Prelude.{◌==◌, if◌then◌else◌, slice_get}
-use Rattle.std.specs.Option.{option_map}
-use Rattle.std.proofs.lemmas.Bool.Decides.{eqb_tells, nat_tests}
-use Rattle.std.proofs.lemmas.List.{length-set}
-use Rattle.std.proofs.lemmas.Option.{same_Some}
-use Rattle.pfh_items.specs.Faults.{fault_code}
-use Rattle.ax25_link.proofs.Offered.{slice_get-set_other}
-use Rattle.file_store.specs.Store.{Store}
-use Rattle.client_notes.specs.Answers.{noted_as, noted_at, noted_by}
-use Rattle.client_notes.specs.Command.{changed_at, set_some, with_task}
-use Rattle.client_notes.specs.Notes.{Lists, Task, got_of, task_of}
+use Rattle.std.specs.Prelude.{◌==◌, if◌then◌else◌}
 use Rattle.client_notes.specs.declared.answers.Noted.TheVariants as noted
 use Rattle.client_notes.specs.declared.progress.Progress.{Progress}
 use Rattle.client_notes.specs.declared.progress.Progress.TheVariants as progress
-use Rattle.client_notes.proofs.Offered.{task-after, task-at}
-use Rattle.air_attempt.specs.Party.{Asked, IsFileOf, Party}
-use Rattle.air_files.specs.Facts.{AreFirstIfAny, HasFacts, HasNumber, IsNumbered, got}
-use Rattle.air_files.specs.Kept.{IsTaskKept}
+use Rattle.air_files.proofs.Names.{slice_get, option_map, eqb_tells, nat_tests, length-set, same_Some, fault_code, slice_get-set_other, Store, noted_as, noted_at, noted_by, changed_at, set_some, with_task, Lists, Task, got_of, task_of, task-after, task-at, Asked, IsFileOf, Party, AreFirstIfAny, HasFacts, HasNumber, IsNumbered, got, IsTaskKept}
 
 -- the task has this number in the notes
 pub record NumberIn (lists : Lists) (task number : ℕ) : Type 0 where

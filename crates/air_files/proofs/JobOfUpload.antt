@@ -1,36 +1,11 @@
 -- One entry of a job that uploads a file keeps its client's facts.
 use Rattle.std.proofs.Common.{◌≡◌, ◌≢◌, ◌⊎◌, ℕ, ◌+◌, List, [], ◌∷◌, ◌++◌, length, map, Option, None, Some, inl, inr}
 use Rattle.std.proofs.Common.{refl, sym, ◌∙◌, ap, subst, append-nil, append_assoc, take_all, le_refl}
-use Rattle.std.proofs.lemmas.List.{map-append}
-use Rattle.std.proofs.lemmas.Option.{same_Some}
-use Rattle.ftl0_packets.specs.Layout.{Item, PacketValue, ul_go_resp}
-use Rattle.file_store.specs.Store.{Store}
 use Rattle.ftl0_server.specs.Entries as session
-use Rattle.client_notes.specs.Laws.{after_all}
-use Rattle.client_notes.specs.Notes.{Lists}
 use Rattle.client_notes.specs.Several as notes
-use Rattle.ftl0_job.specs.declared.ending.Ending.{Ending}
-use Rattle.ftl0_job.specs.declared.work.Work.{Work}
 use Rattle.ftl0_job.specs.declared.work.Work.TheVariants as work
-use Rattle.ftl0_job.specs.Due.{DuePacket}
-use Rattle.ftl0_job.specs.JobState.{GoBy, HasTask, IsNotBegun}
-use Rattle.ftl0_job.specs.Row.{Row}
-use Rattle.ftl0_job.specs.Table.{JobState, item_row, job_row, new_job, row_of}
-use Rattle.ftl0_job.specs.Upload.{Upload, new_upload, upload_row}
-use Rattle.ftl0_client.specs.Attempt.Attempted.{Attempted}
 use Rattle.ftl0_client.specs.Entries as job
-use Rattle.ftl0_client.specs.Entries.{GoesBy, JobEntry, lost, passed, queued, took}
-use Rattle.air_attempt.specs.Attempt.{Attempt}
-use Rattle.air_attempt.specs.Lists.{AreFirstOf, Has, OneIs}
-use Rattle.air_attempt.specs.Party.{Asked, Party}
-use Rattle.air_attempt.specs.Said.{IsTaken, octets_come, said_behind_server}
-use Rattle.air_attempt.specs.Sides.{IsGreeting, JobReaches, ServerSide, said_by_client, said_by_server}
-use Rattle.air_attempt.proofs.Offered.{one-cases, one-left, reaches-by, reaches-then, some-at}
-use Rattle.air_files.specs.Dialogue.{Says, Serves}
-use Rattle.air_files.specs.Facts.{FetchesBy, HasNumber, Receives}
-use Rattle.air_files.specs.Laws.{TookFront, job_gone, with_job}
-use Rattle.air_files.specs.Tasks.{IsWork}
-use Rattle.air_files.specs.UploadDialogue.{GoesOnWith, SaysUpload, ServesUpload}
+use Rattle.air_files.proofs.Names.{map-append, same_Some, Item, PacketValue, ul_go_resp, Store, after_all, Lists, Ending, Work, DuePacket, GoBy, HasTask, IsNotBegun, Row, JobState, item_row, job_row, new_job, row_of, Upload, new_upload, upload_row, Attempted, GoesBy, JobEntry, lost, passed, queued, took, Attempt, AreFirstOf, Has, OneIs, Asked, Party, IsTaken, octets_come, said_behind_server, IsGreeting, JobReaches, ServerSide, said_by_client, said_by_server, one-cases, one-left, reaches-by, reaches-then, some-at, Says, Serves, FetchesBy, HasNumber, Receives, TookFront, job_gone, with_job, IsWork, GoesOnWith, SaysUpload, ServesUpload}
 use Rattle.air_files.proofs.JobNotes.{NotesKept, NumberIn}
 use Rattle.air_files.proofs.JobReach.{row-of-work}
 use Rattle.air_files.proofs.JobStep.{of_attempts}

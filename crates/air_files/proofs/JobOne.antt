@@ -1,15 +1,6 @@
 -- What is to be shown of one entry of a job, where a client is at work.
 use Rattle.std.proofs.Common.{◌≡◌, ℕ, List, [], ◌∷◌, sym, subst}
-use Rattle.file_store.specs.Store.{Store}
-use Rattle.client_notes.specs.Notes.{Lists}
-use Rattle.ftl0_job.specs.declared.work.Work.{Work}
-use Rattle.ftl0_client.specs.Attempt.Attempted.{Attempted}
-use Rattle.ftl0_client.specs.Entries.{GoesBy, JobEntry}
-use Rattle.air_attempt.specs.Attempt.{Attempt}
-use Rattle.air_attempt.specs.Party.{Asked, Party}
-use Rattle.air_attempt.specs.Sides.{ServerSide}
-use Rattle.air_files.specs.Facts.{HasFacts}
-use Rattle.air_files.specs.Laws.{IsUploadOf, IsWorking, JobKeeps, Stands, TookFront}
+use Rattle.air_files.proofs.Names.{Store, Lists, Work, Attempted, GoesBy, JobEntry, Attempt, Asked, Party, ServerSide, HasFacts, IsUploadOf, IsWorking, JobKeeps, Stands, TookFront}
 use Rattle.air_files.proofs.JobOfUpload.{upload-kept}
 use Rattle.air_files.proofs.JobStep.{of_attempts}
 use Rattle.air_files.proofs.JobWorking.{OneKept, Working}

@@ -1,16 +1,8 @@
 -- How a job comes from what was asked to where it is, entry by entry.
 use Rattle.std.proofs.Common.{◌≡◌, ◌≢◌, List, [], ◌∷◌, ◌++◌, Option, None, Some, sym, ◌∙◌, ap, subst, append_assoc}
 use Rattle.std.proofs.Common.{append-nil}
-use Rattle.ftl0_packets.specs.Items.{kind_of_item}
-use Rattle.ftl0_packets.specs.Layout.{Item}
-use Rattle.client_notes.specs.Notes.{Lists}
-use Rattle.ftl0_job.specs.declared.ending.Ending.{Ending}
-use Rattle.ftl0_job.specs.declared.work.Work.{Work}
-use Rattle.ftl0_job.specs.Due.{DuePacket, next_due}
-use Rattle.ftl0_job.specs.Row.{Row}
-use Rattle.ftl0_job.specs.Table.{JobState, item_row, job_after, job_row, row_by}
-use Rattle.ftl0_client.specs.Entries.{JobEntry, after_losing, lost, passed, queued, took}
-use Rattle.air_attempt.specs.Sides.{JobReaches}
+use Rattle.ftl0_job.specs.Due.{next_due}
+use Rattle.air_files.proofs.Names.{kind_of_item, Item, Lists, Ending, Work, DuePacket, Row, JobState, item_row, job_after, job_row, row_by, JobEntry, after_losing, lost, passed, queued, took, JobReaches}
 
 -- before the outcome a packet's row is that of the work
 pub row-of-work : (lists : Lists) (job : JobState) (item : Item) → job.ending ≡ None

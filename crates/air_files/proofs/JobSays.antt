@@ -1,13 +1,7 @@
 -- What a job has said stays so where nothing more is said.
 use Rattle.std.proofs.Common.{◌≡◌, ℕ, sym, ◌∙◌, subst}
-use Rattle.ftl0_packets.specs.Layout.{PacketValue, data_end}
-use Rattle.ftl0_job.specs.declared.work.Work.{Work}
 use Rattle.ftl0_job.specs.declared.work.Work.TheVariants as work
-use Rattle.air_attempt.specs.Lists.{OneIs}
-use Rattle.air_attempt.specs.Said.{IsTaken}
-use Rattle.air_attempt.specs.Sides.{ClientSide, said_by_client}
-use Rattle.air_files.specs.Dialogue.{IsListSaid, Says}
-use Rattle.air_files.specs.DownloadDialogue.{Fetching, IsFetchingFile, SaysDownload, asked, silent, told}
+use Rattle.air_files.proofs.Names.{PacketValue, data_end, Work, OneIs, IsTaken, ClientSide, said_by_client, IsListSaid, Says, Fetching, IsFetchingFile, SaysDownload, asked, silent, told}
 use Rattle.air_files.proofs.JobTook.{whole}
 use Rattle.air_files.proofs.JobUploadGoes.{says-same}
 

@@ -1,24 +1,9 @@
 -- The facts of a client once its job went on by some entries, and where it starts again from its notes.
 use Rattle.std.proofs.Common.{◌≡◌, ℕ, ◌+◌, List, ◌∷◌, ◌++◌, length, true, None, Some, refl, sym, ◌∙◌, ap, subst}
 use Rattle.std.proofs.Common.{le_trans, take_all, le_refl}
-use Rattle.file_store.specs.Store.{Store}
-use Rattle.ftl0_session.specs.Table.{receiving}
-use Rattle.client_notes.specs.Command.{NotesCommand}
-use Rattle.client_notes.specs.Laws.{after_all}
-use Rattle.client_notes.specs.Notes.{Lists}
 use Rattle.client_notes.specs.Several as notes
-use Rattle.ftl0_client.specs.Attempt.Attempted.{Attempted}
 use Rattle.ftl0_client.specs.Entries as job
-use Rattle.ftl0_client.specs.Entries.{JobEntry}
-use Rattle.air_attempt.specs.Attempt.{Attempt}
-use Rattle.air_attempt.specs.Party.{Asked, Party}
-use Rattle.air_attempt.specs.Said.{octets_come, said_behind_server}
-use Rattle.air_attempt.specs.Sides.{ServerSide}
-use Rattle.air_attempt.proofs.Offered.{each-weaker}
-use Rattle.air_files.specs.Dialogue.{Says}
-use Rattle.air_files.specs.Facts.{AskedWithin, HasFacts, HasFetched, HasNumber, IsFetching, NotesGrant, Receives}
-use Rattle.air_files.specs.Laws.{JobKeeps, job_gone, started_with, with_job}
-use Rattle.air_files.specs.UploadDialogue.{GoesOnWith}
+use Rattle.air_files.proofs.Names.{Store, receiving, NotesCommand, after_all, Lists, Attempted, JobEntry, Attempt, Asked, Party, octets_come, said_behind_server, ServerSide, each-weaker, Says, AskedWithin, HasFacts, HasFetched, HasNumber, IsFetching, NotesGrant, Receives, JobKeeps, job_gone, started_with, with_job, GoesOnWith}
 use Rattle.air_files.proofs.JobChange.{change}
 use Rattle.air_files.proofs.JobNotes.{NotesKept, NumberIn}
 

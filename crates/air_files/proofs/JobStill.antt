@@ -1,21 +1,9 @@
 -- A job that took and queued nothing leaves its client's facts.
 use Rattle.std.proofs.Common.{◌≡◌, ℕ, List, [], ◌++◌, Option, None, Some, refl, sym, ◌∙◌, ap, subst, append-nil}
-use Rattle.file_store.specs.Store.{Store}
-use Rattle.client_notes.specs.Notes.{Lists}
-use Rattle.ftl0_job.specs.declared.ending.Ending.{Ending}
 use Rattle.ftl0_job.specs.declared.ending.Outcome.TheVariants as outcome
-use Rattle.ftl0_job.specs.declared.phases.DownloadPhase.{DownloadPhase}
 use Rattle.ftl0_job.specs.declared.phases.DownloadPhase.TheVariants as fetch
-use Rattle.ftl0_job.specs.declared.work.Work.{Work}
 use Rattle.ftl0_job.specs.declared.work.Work.TheVariants as work
-use Rattle.ftl0_job.specs.Table.{JobState}
-use Rattle.ftl0_client.specs.Attempt.Attempted.{Attempted, outcome_by}
-use Rattle.ftl0_client.specs.Entries.{JobEntry}
-use Rattle.air_attempt.specs.Attempt.{Attempt}
-use Rattle.air_attempt.specs.Party.{Asked, Party}
-use Rattle.air_attempt.specs.Sides.{ServerSide}
-use Rattle.air_files.specs.Facts.{AreFirstIfAny, FetchesBy, FetchesIn, HasFacts, coming_by, got}
-use Rattle.air_files.specs.Laws.{JobKeeps, job_gone, with_job}
+use Rattle.air_files.proofs.Names.{Store, Lists, Ending, DownloadPhase, Work, JobState, Attempted, outcome_by, JobEntry, Attempt, Asked, Party, ServerSide, AreFirstIfAny, FetchesBy, FetchesIn, HasFacts, coming_by, got, JobKeeps, job_gone, with_job}
 use Rattle.air_files.proofs.JobChange.{moved}
 use Rattle.air_files.proofs.JobEarlier.{reached-any}
 use Rattle.air_files.proofs.JobSays.{says-still}

@@ -2,34 +2,13 @@
 -- number and how far it has come.
 use Rattle.std.proofs.Common.{◌≡◌, ℕ, ◌-◌, zero, suc, Bool, true, false, List, [], ◌∷◌, length, take, Option, None}
 use Rattle.std.proofs.Common.{Some, Ok, Err, inl, inr, refl, sym, ◌∙◌, ap, subst}
-use Rattle.std.specs.Prelude.{◌==◌, if◌then◌else◌, slice_get, slice_set, ⊤}
-use Rattle.std.specs.List.{AllByRecursion}
-use Rattle.std.proofs.lemmas.Bool.{cases_eq}
-use Rattle.std.proofs.lemmas.List.{length-set}
-use Rattle.std.proofs.lemmas.List.Elements.{All-from_recursion, All-take, recursion_from_All}
-use Rattle.std.proofs.lemmas.Option.{same_Some, slice_get_within}
-use Rattle.px_base.specs.CallSign.{CallSign}
-use Rattle.ftl0_packets.specs.Layout.{Item, PacketValue}
-use Rattle.ax25_link.proofs.Offered.{slice_get-set_other, slice_get-set_same}
-use Rattle.client_notes.specs.Command.{NotesCommand, acked, after, changed_at, forgot, got, numbered, refused, set_some}
-use Rattle.client_notes.specs.Command.{start, with_task}
-use Rattle.client_notes.specs.Laws.{after_all}
-use Rattle.client_notes.specs.Notes.{Lists, Task, got_of}
+use Rattle.std.specs.Prelude.{◌==◌, if◌then◌else◌}
+use Rattle.client_notes.specs.Command.{after, got, refused}
 use Rattle.client_notes.specs.Several as notes
 use Rattle.client_notes.specs.declared.progress.Progress.TheVariants as progress
-use Rattle.ftl0_job.specs.declared.ending.Ending.{Ending}
-use Rattle.ftl0_job.specs.declared.work.Work.{Work}
 use Rattle.ftl0_job.specs.declared.work.Work.TheVariants as work
-use Rattle.ftl0_job.specs.Download.{Download, download_row, gots, last_got}
-use Rattle.ftl0_job.specs.Row.{Row}
-use Rattle.ftl0_job.specs.Table.{JobState, item_row, job_after, job_row, row_by}
-use Rattle.ftl0_job.specs.Upload.{Upload, upload_row}
 use Rattle.ftl0_client.specs.Entries as job
-use Rattle.ftl0_client.specs.Entries.{GoesBy, JobEntry, lost, passed, queued, took}
-use Rattle.air_attempt.specs.Party.{Asked, Party}
-use Rattle.air_attempt.proofs.Offered.{each-append}
-use Rattle.air_files.specs.Laws.{JobTasksLaw, started_with}
-use Rattle.air_files.specs.Tasks.{AreTasks}
+use Rattle.air_files.proofs.Names.{slice_get, slice_set, ⊤, AllByRecursion, cases_eq, length-set, All-from_recursion, All-take, recursion_from_All, same_Some, slice_get_within, CallSign, Item, PacketValue, slice_get-set_other, slice_get-set_same, NotesCommand, acked, changed_at, forgot, numbered, set_some, start, with_task, after_all, Lists, Task, got_of, Ending, Work, Download, download_row, gots, last_got, Row, JobState, item_row, job_after, job_row, row_by, Upload, upload_row, GoesBy, JobEntry, lost, passed, queued, took, Asked, Party, each-append, JobTasksLaw, started_with, AreTasks}
 use Rattle.air_files.proofs.DownloadJobRows.{DownloadCases, download-cases}
 use Rattle.air_files.proofs.JobNotes.{SameTasks}
 use Rattle.air_files.proofs.JobUploadRows.{UploadCases, upload-cases}

@@ -1,19 +1,11 @@
 -- What the packets that one side took tell of what the other one has said.
 use Rattle.std.proofs.Common.{◌≡◌, ◌⊎◌, ℕ, List, [], ◌∷◌, ◌++◌, length, map, Ok, inl, inr, refl, sym, ◌∙◌, subst}
-use Rattle.std.proofs.lemmas.List.Concat.{flat_map-append}
-use Rattle.ftl0_packets.specs.Layout.{Item, PacketValue, data_end, login_resp, ul_ack_resp, ul_error_resp, ul_go_resp}
-use Rattle.ftl0_packets.specs.Layout.{ul_nak_resp, upload_cmd}
 use Rattle.ftl0_server.specs.Entries as session
-use Rattle.ftl0_server.specs.Entries.{SessionEntry}
 use Rattle.ftl0_client.specs.Entries as job
-use Rattle.ftl0_client.specs.Entries.{JobEntry}
-use Rattle.air_attempt.specs.Lists.{AreFirstOf, Has, OneIs}
-use Rattle.air_attempt.specs.Said.{Answers, IsTaken}
-use Rattle.air_attempt.specs.Sides.{IsGreeting, ServerSide, said_by_server}
-use Rattle.air_attempt.proofs.Offered.{one-last, one-left, one-right}
-use Rattle.air_files.specs.UploadDialogue.{AnsweredFirst, IsOfferFor, IsOfferedBy, IsWord, Receiving, ServesUpload}
-use Rattle.air_files.specs.UploadDialogue.{answered_in, data_items, ended, received_items, receives, receiving_said}
-use Rattle.air_files.specs.UploadDialogue.{refused, unasked}
+use Rattle.air_files.specs.UploadDialogue.{IsWord}
+use Rattle.air_files.specs.UploadDialogue.{ended}
+use Rattle.air_files.specs.UploadDialogue.{refused}
+use Rattle.air_files.proofs.Names.{flat_map-append, Item, PacketValue, data_end, login_resp, ul_ack_resp, ul_error_resp, ul_go_resp, ul_nak_resp, upload_cmd, SessionEntry, JobEntry, AreFirstOf, Has, OneIs, Answers, IsTaken, IsGreeting, ServerSide, said_by_server, one-last, one-left, one-right, AnsweredFirst, IsOfferFor, IsOfferedBy, Receiving, ServesUpload, answered_in, data_items, received_items, receives, receiving_said, unasked}
 
 -- ---- lists
 

@@ -1,20 +1,11 @@
 -- How far the job of an upload has come by what it said.
 use Rattle.std.proofs.Common.{◌≡◌, ◌≢◌, ℕ, ◌+◌, ◌≤◌, List, [], ◌∷◌, ◌++◌, Bool, true, false, length, take, drop, Option}
 use Rattle.std.proofs.Common.{None, Some, Ok, inl, inr, refl, sym, ap, subst, arith, suc, zero}
-use Rattle.std.specs.Prelude.{◌==◌, ◌&&◌, nat_le, nat_lt, if◌then◌else◌, ⊤}
-use Rattle.std.proofs.lemmas.Bool.Decides.{nat_tests}
-use Rattle.ftl0_packets.specs.Layout.{PacketValue, data_end, data_part, ul_go_resp, upload_cmd}
-use Rattle.ftl0_job.specs.declared.ending.Ending.{Ending}
+use Rattle.std.specs.Prelude.{◌==◌, ◌&&◌, if◌then◌else◌}
 use Rattle.ftl0_job.specs.declared.ending.Outcome.TheVariants as outcome
-use Rattle.ftl0_job.specs.declared.phases.UploadPhase.{UploadPhase}
 use Rattle.ftl0_job.specs.declared.phases.UploadPhase.TheVariants as phase
 use Rattle.ftl0_job.specs.declared.work.Work.TheVariants as work
-use Rattle.ftl0_job.specs.Table.{JobState}
-use Rattle.ftl0_client.specs.Entries.{JobEntry, packets_said, said_in}
-use Rattle.air_attempt.specs.Lists.{Has, OneIs}
-use Rattle.air_attempt.specs.Said.{IsTaken}
-use Rattle.air_attempt.proofs.Offered.{flat_map-one}
-use Rattle.air_files.specs.UploadDialogue.{GoesOnWith}
+use Rattle.air_files.proofs.Names.{nat_le, nat_lt, ⊤, nat_tests, PacketValue, data_end, data_part, ul_go_resp, upload_cmd, Ending, UploadPhase, JobState, JobEntry, packets_said, said_in, Has, OneIs, IsTaken, flat_map-one, GoesOnWith}
 use Rattle.air_files.proofs.JobUploadRows.{upload_at}
 
 -- ---- packets that go on with a file

@@ -2,25 +2,9 @@
 use Rattle.std.proofs.Common.{◌≡◌, ◌≢◌, ℕ, ◌≤◌, Bool, true, false, not, List, [], ◌∷◌, ◌++◌, length, None, Ok, inl, inr}
 use Rattle.std.proofs.Common.{refl, ◌∙◌, subst, arith}
 use Rattle.std.specs.Prelude.{◌==◌, ◌&&◌, if◌then◌else◌}
-use Rattle.std.proofs.lemmas.Bool.Decides.{nat_tests}
-use Rattle.ftl0_packets.specs.Layout.{PacketValue, data_end, ul_error_resp, ul_go_resp, ul_nak_resp, upload_cmd}
-use Rattle.file_store.specs.Store.{Store}
-use Rattle.client_notes.specs.Command.{NotesCommand, acked, numbered}
-use Rattle.client_notes.specs.Laws.{after_all}
-use Rattle.client_notes.specs.Notes.{Lists, Task}
 use Rattle.client_notes.specs.Several as notes
-use Rattle.client_notes.proofs.Offered.{task-after}
-use Rattle.ftl0_job.specs.declared.phases.UploadPhase.{UploadPhase}
 use Rattle.ftl0_job.specs.declared.phases.UploadPhase.TheVariants as phase
-use Rattle.ftl0_job.specs.JobState.{HasTask}
-use Rattle.ftl0_job.specs.Row.{Row}
-use Rattle.ftl0_job.specs.Upload.{Upload, may_go, upload_row}
-use Rattle.air_attempt.specs.Attempt.{Attempt}
-use Rattle.air_attempt.specs.Lists.{Has, OneIs}
-use Rattle.air_attempt.specs.Party.{Asked, Party}
-use Rattle.air_attempt.specs.Said.{Answers, AsksUpload, IsTaken}
-use Rattle.air_attempt.specs.Sides.{ServerSide, said_by_client, said_by_server}
-use Rattle.air_files.specs.Facts.{HasNumber}
+use Rattle.air_files.proofs.Names.{nat_tests, PacketValue, data_end, ul_error_resp, ul_go_resp, ul_nak_resp, upload_cmd, Store, NotesCommand, acked, numbered, after_all, Lists, Task, task-after, UploadPhase, HasTask, Row, Upload, may_go, upload_row, Attempt, Has, OneIs, Asked, Party, Answers, AsksUpload, IsTaken, ServerSide, said_by_client, said_by_server, HasNumber}
 use Rattle.air_files.proofs.JobNotes.{NotesKept, NumberIn}
 use Rattle.air_files.proofs.JobStep.{of_attempts}
 use Rattle.air_files.proofs.JobTook.{offer-behind, one-offer, refusal-answers, whole, word-behind}

@@ -1,15 +1,11 @@
 -- What a job that uploads has said, behind what its session took.
 use Rattle.std.proofs.Common.{◌≡◌, ℕ, ◌+◌, List, [], ◌∷◌, ◌++◌, length, drop, map, inl, inr, refl, sym, ◌∙◌, ap, subst}
 use Rattle.std.proofs.Common.{suc, zero, length-append, add-zero, add_assoc}
-use Rattle.ftl0_packets.specs.Layout.{Item, PacketValue, data_end, data_part, download_cmd, ul_go_resp, upload_cmd}
 use Rattle.ftl0_server.specs.Entries as session
-use Rattle.ftl0_job.specs.declared.phases.UploadPhase.{UploadPhase}
 use Rattle.ftl0_job.specs.declared.phases.UploadPhase.TheVariants as phase
-use Rattle.air_attempt.specs.Lists.{AreFirstOf, Has, OneIs}
-use Rattle.air_attempt.specs.Said.{IsTaken, Offers, octets_come, octets_of_item, octets_taken}
-use Rattle.air_attempt.specs.Sides.{ClientSide, IsGreeting, ServerSide, said_by_client, said_by_server}
-use Rattle.air_files.specs.UploadDialogue.{GoesOnWith, IsSendingFile, SaysUpload, Sending, ServesUpload, asked}
+use Rattle.air_files.specs.UploadDialogue.{Sending, asked}
 use Rattle.air_files.specs.UploadDialogue.{sending_said, sends, silent}
+use Rattle.air_files.proofs.Names.{Item, PacketValue, data_end, data_part, download_cmd, ul_go_resp, upload_cmd, UploadPhase, AreFirstOf, Has, OneIs, IsTaken, Offers, octets_come, octets_of_item, octets_taken, ClientSide, IsGreeting, ServerSide, said_by_client, said_by_server, GoesOnWith, IsSendingFile, SaysUpload, ServesUpload}
 use Rattle.air_files.proofs.JobTook.{first-same, offer-behind, one-offer, whole}
 use Rattle.air_files.proofs.JobUploadCame.{CameTo, goes-on}
 

@@ -1,30 +1,13 @@
 -- What a packet that a job takes of the upload of a file keeps of its client's notes.
 use Rattle.std.proofs.Common.{◌≡◌, ℕ, ◌≤◌, Bool, true, false, List, [], ◌∷◌, ◌++◌, length, Option, None, Some, Ok, inl}
 use Rattle.std.proofs.Common.{inr, refl, sym, ◌∙◌, ap, subst, suc, zero, arith}
-use Rattle.std.specs.Prelude.{◌==◌, if◌then◌else◌, IsTrue}
-use Rattle.std.proofs.lemmas.Option.{same_Some}
-use Rattle.px_base.specs.CallSign.{CallSign}
-use Rattle.ftl0_packets.specs.Layout.{PacketValue, ul_go_resp, upload_cmd}
-use Rattle.file_store.specs.Info.{IsCompleteIn, is_complete as holds_whole}
-use Rattle.file_store.specs.Store.{Entry, Holding, Store, entry_of, partial}
+use Rattle.std.specs.Prelude.{◌==◌, if◌then◌else◌}
 use Rattle.ftl0_server.specs.Entries as session
-use Rattle.client_notes.specs.Command.{NotesCommand, acked, after, numbered, refused}
-use Rattle.client_notes.specs.Notes.{Lists, Task}
+use Rattle.client_notes.specs.Command.{after, refused}
 use Rattle.client_notes.specs.Several as notes
 use Rattle.client_notes.specs.declared.progress.Progress.TheVariants as progress
-use Rattle.ftl0_job.specs.declared.phases.UploadPhase.{UploadPhase}
 use Rattle.ftl0_job.specs.declared.work.Work.TheVariants as work
-use Rattle.ftl0_job.specs.JobState.{HasTask}
-use Rattle.ftl0_job.specs.Upload.{Upload, new_upload, refusal_of}
-use Rattle.air_attempt.specs.Attempt.{Attempt}
-use Rattle.air_attempt.specs.Lists.{Has, OneIs}
-use Rattle.air_attempt.specs.Party.{Asked, IsFileOf, Party}
-use Rattle.air_attempt.specs.Said.{Answers, Grants, IsTaken, Offers, SaysComplete}
-use Rattle.air_attempt.specs.Sides.{IsGreeting, ServerSide, said_by_client, said_by_server}
-use Rattle.air_attempt.proofs.Offered.{some-at}
-use Rattle.air_files.specs.Facts.{HasFacts, HasNumber, IsBegun, IsGrantKept, IsNumbered, IsOfferKept}
-use Rattle.air_files.specs.Kept.{IsFileAt, IsKept, IsTaskKept}
-use Rattle.air_files.specs.UploadDialogue.{ServesUpload}
+use Rattle.air_files.proofs.Names.{IsTrue, same_Some, CallSign, PacketValue, ul_go_resp, upload_cmd, IsCompleteIn, is_complete as holds_whole, Entry, Holding, Store, entry_of, partial, NotesCommand, acked, numbered, Lists, Task, UploadPhase, HasTask, Upload, new_upload, refusal_of, Attempt, Has, OneIs, Asked, IsFileOf, Party, Answers, Grants, IsTaken, Offers, SaysComplete, IsGreeting, ServerSide, said_by_client, said_by_server, some-at, HasFacts, HasNumber, IsBegun, IsGrantKept, IsNumbered, IsOfferKept, IsFileAt, IsKept, IsTaskKept, ServesUpload}
 use Rattle.air_files.proofs.JobNotes.{NotesKept, kept-same, kept-task}
 use Rattle.air_files.proofs.JobStep.{of_attempts}
 use Rattle.air_files.proofs.JobTook.{offer-answers, whole}

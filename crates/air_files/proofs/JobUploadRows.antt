@@ -1,15 +1,10 @@
 -- The rows of the client's table for an upload, each with the packet that has it.
 use Rattle.std.proofs.Common.{◌≡◌, ℕ, List, [], ◌∷◌, Bool, true, false, length, refl}
 use Rattle.std.specs.Prelude.{if◌then◌else◌}
-use Rattle.ftl0_packets.specs.Layout.{PacketValue, data_end, kind_of, login_resp, ul_ack_resp, ul_error_resp}
-use Rattle.ftl0_packets.specs.Layout.{ul_go_resp, ul_nak_resp, upload_cmd}
-use Rattle.client_notes.specs.Command.{acked}
 use Rattle.ftl0_job.specs.declared.ending.Outcome.TheVariants as outcome
-use Rattle.ftl0_job.specs.declared.phases.UploadPhase.{UploadPhase}
 use Rattle.ftl0_job.specs.declared.phases.UploadPhase.TheVariants as phase
-use Rattle.ftl0_job.specs.Row.{Row, ends, ends_later, goes_on, strange}
-use Rattle.ftl0_job.specs.Upload.{Upload, ack_row, go_row, is_complete, login_row, may_go, number_commands, refusal_of}
-use Rattle.ftl0_job.specs.Upload.{sending_row, upload_row}
+use Rattle.ftl0_job.specs.Upload.{is_complete, login_row}
+use Rattle.air_files.proofs.Names.{PacketValue, data_end, kind_of, login_resp, ul_ack_resp, ul_error_resp, ul_go_resp, ul_nak_resp, upload_cmd, acked, UploadPhase, Row, ends, ends_later, goes_on, strange, Upload, ack_row, go_row, may_go, number_commands, refusal_of, sending_row, upload_row}
 
 -- the upload of a task's file, come so far
 abbrev pub upload_at : ℕ → ℕ → List ℕ → UploadPhase → Upload

@@ -2,26 +2,10 @@
 use Rattle.std.proofs.Common.{◌≡◌, ℕ, ◌+◌, ◌-◌, List, [], ◌∷◌, ◌++◌, Bool, true, false, length, take, drop, min, Option}
 use Rattle.std.proofs.Common.{None, Some, Ok, Err, refl, sym, ◌∙◌, ap, subst, arith}
 use Rattle.std.specs.Prelude.{◌==◌, if◌then◌else◌}
-use Rattle.std.specs.Option.{option_map}
-use Rattle.std.proofs.lemmas.Bool.Decides.{nat_tests}
-use Rattle.std.proofs.lemmas.List.{length-drop, length-take}
-use Rattle.std.proofs.lemmas.Option.{same_Some}
-use Rattle.ftl0_packets.specs.Items.{kind_of_item}
-use Rattle.ftl0_packets.specs.Layout.{Item, PacketValue, data_end, data_part, ul_go_resp, upload_cmd}
-use Rattle.client_notes.specs.Notes.{Lists}
-use Rattle.ftl0_job.specs.declared.ending.Ending.{Ending}
-use Rattle.ftl0_job.specs.declared.phases.UploadPhase.{UploadPhase}
 use Rattle.ftl0_job.specs.declared.phases.UploadPhase.TheVariants as phase
-use Rattle.ftl0_job.specs.declared.work.Work.{Work}
 use Rattle.ftl0_job.specs.declared.work.Work.TheVariants as work
-use Rattle.ftl0_job.specs.Due.{DuePacket, due_by, due_from, due_in, in_job, in_work, most_data, next_due}
-use Rattle.ftl0_job.specs.Row.{Row}
-use Rattle.ftl0_job.specs.Table.{JobState, item_row, job_after, new_job, row_of}
-use Rattle.ftl0_job.specs.Upload.{Upload, new_upload, upload_row}
-use Rattle.ftl0_client.specs.Entries.{JobEntry, after_losing, lost, queued, took}
-use Rattle.air_attempt.specs.Said.{IsTaken}
-use Rattle.air_attempt.specs.Sides.{JobReaches}
-use Rattle.air_attempt.proofs.Offered.{one-last, one-left}
+use Rattle.ftl0_job.specs.Due.{most_data, next_due}
+use Rattle.air_files.proofs.Names.{option_map, nat_tests, length-drop, length-take, same_Some, kind_of_item, Item, PacketValue, data_end, data_part, ul_go_resp, upload_cmd, Lists, Ending, UploadPhase, Work, DuePacket, due_by, due_from, due_in, in_job, in_work, Row, JobState, item_row, job_after, new_job, row_of, Upload, new_upload, upload_row, JobEntry, after_losing, lost, queued, took, IsTaken, JobReaches, one-last, one-left}
 use Rattle.air_files.proofs.JobReach.{Stays, of-reached}
 use Rattle.air_files.proofs.JobUploadRows.{UploadCases, upload-cases, upload_at}
 use Rattle.air_files.proofs.JobUploadCame.{CameTo, DoesUpload, GoesTo, NeverFetched, SendsTo, goes-end, goes-more}

@@ -1,30 +1,10 @@
 -- What stands where a job goes on by one entry, and what is to be shown then.
 use Rattle.std.proofs.Common.{◌≡◌, ℕ, List, [], ◌∷◌, ◌++◌, map, Option, None, Some}
-use Rattle.ftl0_packets.specs.Layout.{Item, PacketValue}
-use Rattle.ax25_link.specs.declared.state.Why.{Why}
-use Rattle.file_store.specs.Store.{Store}
 use Rattle.ftl0_server.specs.Entries as session
-use Rattle.client_notes.specs.Laws.{after_all}
-use Rattle.client_notes.specs.Notes.{Lists}
 use Rattle.client_notes.specs.Several as notes
-use Rattle.ftl0_job.specs.declared.ending.Ending.{Ending}
 use Rattle.ftl0_job.specs.declared.ending.Outcome.TheVariants as outcome
-use Rattle.ftl0_job.specs.JobState.{IsNotBegun}
-use Rattle.ftl0_job.specs.Promises.{JobStands}
-use Rattle.ftl0_job.specs.Table.{new_job}
-use Rattle.ftl0_client.specs.Attempt.Attempted.{Attempted, outcome_by}
-use Rattle.ftl0_client.specs.declared.attempt.outcome.AttemptOutcome.TheVariants.{Reached}
 use Rattle.ftl0_client.specs.Entries as job
-use Rattle.ftl0_client.specs.Entries.{JobEntry}
-use Rattle.air_attempt.specs.Attempt.{Attempt}
-use Rattle.air_attempt.specs.Lists.{Has, OneIs}
-use Rattle.air_attempt.specs.Party.{Asked, Party}
-use Rattle.air_attempt.specs.Said.{IsTaken}
-use Rattle.air_attempt.specs.Sides.{JobReaches, ServerSide, said_by_client, said_by_server}
-use Rattle.air_attempt.proofs.Offered.{one-left}
-use Rattle.air_files.specs.Facts.{HasFacts}
-use Rattle.air_files.specs.Laws.{Stands, TookFront, job_gone, with_job}
-use Rattle.air_files.specs.SoundStore.{IsSoundStore}
+use Rattle.air_files.proofs.Names.{Item, PacketValue, Why, Store, after_all, Lists, Ending, IsNotBegun, JobStands, new_job, Attempted, outcome_by, Reached, JobEntry, Attempt, Has, OneIs, Asked, Party, IsTaken, JobReaches, ServerSide, said_by_client, said_by_server, one-left, HasFacts, Stands, TookFront, job_gone, with_job, IsSoundStore}
 use Rattle.air_files.proofs.JobNotes.{NotesKept}
 use Rattle.air_files.proofs.JobStep.{JobKept, of_attempts}
 use Rattle.air_files.proofs.JobTook.{front-has, has-ok, last-item, map-ok, took-item, whole}

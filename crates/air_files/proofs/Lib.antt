@@ -74,3 +74,4 @@ mod UploadNext
 mod UploadReceived
 mod UploadRows
 mod UploadServed
+mod Names

@@ -1,11 +1,6 @@
 -- What is so of each session of a client.
 use Rattle.std.proofs.Common.{◌≡◌, Some}
-use Rattle.std.specs.Prelude.{IfSome}
-use Rattle.air_attempt.specs.Attempt.{Attempt}
-use Rattle.air_attempt.specs.Lists.{Has}
-use Rattle.air_attempt.specs.Party.{EachSide, Party}
-use Rattle.air_attempt.specs.Sides.{ServerSide}
-use Rattle.air_attempt.proofs.Offered.{each-at, each-from, some-at, some-from}
+use Rattle.air_files.proofs.Names.{IfSome, Attempt, Has, EachSide, Party, ServerSide, each-at, each-from, some-at, some-from}
 
 pub side-at : (P : Attempt → ServerSide → Type 0) (party : Party) (a : Attempt) (side : ServerSide) → EachSide party P
     → Has party.attempts a → a.server ≡ Some side → P a side

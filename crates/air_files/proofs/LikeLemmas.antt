@@ -2,20 +2,12 @@
 -- facts.
 -- Ends of links, transmissions and what else is theirs don't matter, and a session may be over.
 use Rattle.std.proofs.Common.{◌≡◌, ℕ, List, length, ap, sym, ◌∙◌, true}
-use Rattle.file_store.specs.Store.{Store}
-use Rattle.ftl0_job.specs.declared.work.Work.{Work}
 use Rattle.ftl0_job.specs.declared.work.Work.TheVariants as work
 use Rattle.ftl0_job.specs.declared.ending.Outcome.TheVariants as reached
-use Rattle.air_attempt.specs.Attempt.{Attempt}
-use Rattle.air_attempt.specs.Party.{Party}
-use Rattle.air_attempt.specs.Sides.{ClientSide, ServerSide}
-use Rattle.air_files.specs.Dialogue.{Says, Serves}
 use Rattle.air_files.specs.DownloadDialogue as download
-use Rattle.air_files.specs.DownloadDialogue.{Fetching, IsFetchingFile}
-use Rattle.air_files.specs.UploadDialogue.{AnsweredFirst, IsSendingFile, Receiving, Sending, asked, ended, receives}
-use Rattle.air_files.specs.UploadDialogue.{refused, sends as sending, silent, unasked}
-use Rattle.air_files.specs.Facts.{HasNumber, IsGrantKept, Receives}
-use Rattle.air_files.specs.Laws.{IsSameParty, LooksLike, LooksLikeSession}
+use Rattle.air_files.specs.UploadDialogue.{Sending, asked, ended}
+use Rattle.air_files.specs.UploadDialogue.{refused, sends as sending, silent}
+use Rattle.air_files.proofs.Names.{Store, Work, Attempt, Party, ClientSide, ServerSide, Says, Serves, Fetching, IsFetchingFile, AnsweredFirst, IsSendingFile, Receiving, receives, unasked, HasNumber, IsGrantKept, Receives, IsSameParty, LooksLike, LooksLikeSession}
 use Rattle.air_files.proofs.ApartLemmas.{HasClientFacts, HasSideFacts}
 use Rattle.air_files.proofs.JobEarlier.{reached-any}
 use Rattle.air_files.proofs.ReceivesAs.{receives-as}

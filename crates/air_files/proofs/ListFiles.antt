@@ -1,18 +1,7 @@
 -- The numbers of a caller's list are those of complete files: of what it selects, and of what is left of it.
 use Rattle.std.proofs.Common.{◌≡◌, ℕ, ◌+◌, ◌≤◌, ◌<◌, List, [], ◌∷◌, ◌++◌, length, map, drop, refl, ◌∙◌, not, cond, Bool}
 use Rattle.std.proofs.Common.{true, false, None, Some, arith}
-use Rattle.std.specs.Prelude.{filter, find}
-use Rattle.std.proofs.lemmas.Bool.Decides.{nat_tests}
-use Rattle.std.proofs.lemmas.List.Elements.{All-append, All-cons, All-drop, All-filter, All-map, All-nil, All-weaker}
-use Rattle.px_base.specs.CallSign.{CallSign}
-use Rattle.selection.specs.Layout.{Tree}
-use Rattle.file_store.specs.Info.{IsCompleteIn, is_complete}
-use Rattle.file_store.specs.IsStore.{AreEntries, IsStore}
-use Rattle.file_store.specs.Store.{Entry, Store, entry_of}
-use Rattle.file_store.proofs.Offered.{has_number}
-use Rattle.ftl0_session.specs.Downloads.Needs.{AreComplete, AreFiles}
-use Rattle.ftl0_session.specs.Downloads.Table.{chosen, is_chosen}
-use Rattle.ftl0_session.specs.Lists.Lists.{CallerList, after_taking, is_of, lists_of_others, selected, shortened}
+use Rattle.air_files.proofs.Names.{filter, find, nat_tests, All-append, All-cons, All-drop, All-filter, All-map, All-nil, All-weaker, CallSign, Tree, IsCompleteIn, is_complete, AreEntries, IsStore, Entry, Store, entry_of, has_number, AreComplete, AreFiles, chosen, is_chosen, CallerList, after_taking, is_of, lists_of_others, selected, shortened}
 
 -- ---- lists
 

@@ -1,29 +1,9 @@
 -- One entry of a job that selects and lists keeps its client's facts.
 use Rattle.std.proofs.Common.{◌≡◌, ◌≢◌, ℕ, List, [], ◌∷◌, refl, ap, sym, ◌∙◌, subst, Option, None, Some, append-nil}
-use Rattle.ftl0_packets.specs.Layout.{Item}
-use Rattle.file_store.specs.Store.{Store}
-use Rattle.client_notes.specs.Command.{NotesCommand}
-use Rattle.client_notes.specs.Laws.{after_all}
-use Rattle.client_notes.specs.Notes.{Lists}
 use Rattle.client_notes.specs.Several as notes
-use Rattle.ftl0_job.specs.declared.ending.Ending.{Ending}
-use Rattle.ftl0_job.specs.declared.work.Work.{Work}
 use Rattle.ftl0_job.specs.declared.work.Work.TheVariants as work
-use Rattle.ftl0_job.specs.Directory.{Directory, new_directory}
-use Rattle.ftl0_job.specs.JobState.{IsNotBegun}
-use Rattle.ftl0_job.specs.Row.{Row}
-use Rattle.ftl0_job.specs.Table.{JobState, item_row, job_row, new_job}
-use Rattle.ftl0_job.specs.Upload.{Upload, new_upload}
-use Rattle.ftl0_client.specs.Attempt.Attempted.{Attempted}
 use Rattle.ftl0_client.specs.Entries as job
-use Rattle.ftl0_client.specs.Entries.{GoesBy, JobEntry, lost, passed, queued, took}
-use Rattle.air_attempt.specs.Attempt.{Attempt}
-use Rattle.air_attempt.specs.Party.{Asked, Party}
-use Rattle.air_attempt.specs.Sides.{JobReaches, said_by_client}
-use Rattle.air_attempt.proofs.Offered.{reaches-by, reaches-then}
-use Rattle.air_files.specs.Dialogue.{Says}
-use Rattle.air_files.specs.Facts.{FetchesBy}
-use Rattle.air_files.specs.Laws.{IsDirectoryOf, job_gone, with_job}
+use Rattle.air_files.proofs.Names.{Item, Store, NotesCommand, after_all, Lists, Ending, Work, Directory, new_directory, IsNotBegun, Row, JobState, item_row, job_row, new_job, Upload, new_upload, Attempted, GoesBy, JobEntry, lost, passed, queued, took, Attempt, Asked, Party, JobReaches, said_by_client, reaches-by, reaches-then, Says, FetchesBy, IsDirectoryOf, job_gone, with_job}
 use Rattle.air_files.proofs.JobNotes.{NotesKept}
 use Rattle.air_files.proofs.JobOne.{OneLaw}
 use Rattle.air_files.proofs.JobReach.{row-of-work}

@@ -1,28 +1,14 @@
 -- What a job that selects and lists has said, by how far it has come.
 use Rattle.std.proofs.Common.{◌≡◌, ◌≢◌, ℕ, ◌==◌, List, [], ◌∷◌, ◌++◌, length, refl, ap, sym, ◌∙◌, subst, Bool, true}
 use Rattle.std.proofs.Common.{false, Option, None, Some, append-nil}
-use Rattle.std.specs.Prelude.{Ok, Err, if◌then◌else◌, nat_lt}
-use Rattle.std.specs.List.{AllByRecursion}
-use Rattle.ftl0_packets.specs.Items.{kind_of_item}
-use Rattle.ftl0_packets.specs.Layout.{Item, PacketValue, data_end, data_part, dir_short_cmd, dl_error_resp, kind_of}
-use Rattle.ftl0_packets.specs.Layout.{login_resp, select_cmd, select_resp}
-use Rattle.client_notes.specs.Notes.{Lists}
-use Rattle.ftl0_job.specs.declared.ending.Ending.{Ending}
-use Rattle.ftl0_job.specs.declared.ending.Outcome.{Outcome}
+use Rattle.std.specs.Prelude.{if◌then◌else◌}
 use Rattle.ftl0_job.specs.declared.ending.Outcome.TheVariants as outcome
 use Rattle.ftl0_job.specs.declared.phases.DirectoryPhase.{DirectoryPhase}
 use Rattle.ftl0_job.specs.declared.phases.DirectoryPhase.TheVariants as phase
-use Rattle.ftl0_job.specs.declared.work.Work.{Work}
 use Rattle.ftl0_job.specs.declared.work.Work.TheVariants as work
-use Rattle.ftl0_job.specs.Directory.{Directory, directory_row, empty_row, is_empty_code, longest_listing, new_directory}
-use Rattle.ftl0_job.specs.Due.{DuePacket, due_by, next_due}
-use Rattle.ftl0_job.specs.Row.{Row, ends, goes_on, strange}
+use Rattle.ftl0_job.specs.Due.{next_due}
 use Rattle.ftl0_job.specs.Short.{are_short_headers}
-use Rattle.ftl0_job.specs.Table.{JobState, item_row, job_after, new_job, row_of}
-use Rattle.ftl0_client.specs.Entries.{JobEntry, after_losing, lost, passed, said_in, took}
-use Rattle.air_attempt.specs.Sides.{JobReaches}
-use Rattle.air_attempt.proofs.Offered.{each-append}
-use Rattle.air_files.specs.Dialogue.{IsListSaid}
+use Rattle.air_files.proofs.Names.{Ok, Err, nat_lt, AllByRecursion, kind_of_item, Item, PacketValue, data_end, data_part, dir_short_cmd, dl_error_resp, kind_of, login_resp, select_cmd, select_resp, Lists, Ending, Outcome, Work, Directory, directory_row, empty_row, is_empty_code, longest_listing, new_directory, DuePacket, due_by, Row, ends, goes_on, strange, JobState, item_row, job_after, new_job, row_of, JobEntry, after_losing, lost, passed, said_in, took, JobReaches, each-append, IsListSaid}
 use Rattle.air_files.proofs.JobReach.{Stays, of-reached}
 use Rattle.air_files.proofs.JobUploadCame.{NeverFetched, said-one}
 

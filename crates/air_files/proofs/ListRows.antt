@@ -1,28 +1,13 @@
 -- The rows of a session of a list: of SELECT_CMD, and of DIR_SHORT_CMD for what is left of the selection (FTL0 1990).
 use Rattle.std.proofs.Common.{◌≡◌, ◌⊎◌, inl, inr, ℕ, ◌<◌, ◌==◌, List, [], ◌∷◌, length, refl, sym, subst, not, Bool}
 use Rattle.std.proofs.Common.{true, false, Some, arith, append-nil}
-use Rattle.std.specs.Prelude.{Ok, Err, Result, if◌then◌else◌, nat_lt}
-use Rattle.std.specs.List.{AllByRecursion, flat_map, list_all}
-use Rattle.std.proofs.lemmas.List.Elements.{All-nil}
-use Rattle.px_base.specs.CallSign.{CallSign}
-use Rattle.px_base.specs.Octets.{IsOctets}
-use Rattle.ftl0_packets.specs.Layout.{Fits, PacketValue, dir_short_cmd, dl_error_resp, select_cmd}
-use Rattle.selection.specs.Layout.{Tree}
+use Rattle.std.specs.Prelude.{if◌then◌else◌}
 use Rattle.selection.specs.Reading.{tree_in}
 use Rattle.selection.specs.declared.fault.SelFault.{SelFault}
-use Rattle.file_store.specs.Store.{Store}
-use Rattle.ftl0_session.specs.DownloadLaws.{DownloadsLaw}
-use Rattle.ftl0_session.specs.Downloads.Needs.{AreComplete, IsDueIn}
-use Rattle.ftl0_session.specs.Downloads.Sending.{octets_due}
 use Rattle.ftl0_session.specs.Downloads.Table as download
-use Rattle.ftl0_session.specs.Downloads.Table.{DownloadRow, Due, chosen, directory_row, files_row, has_file}
-use Rattle.ftl0_session.specs.Downloads.Table.{listed_files, lists_after, octets_in, refused_row, select_row, short_due}
-use Rattle.ftl0_session.specs.Downloads.Table.{short_octets, tree_row}
-use Rattle.ftl0_session.specs.Lists.Lists.{CallerList}
-use Rattle.ftl0_session.specs.Table.{Row, State, by_download, command, download_part, error_row, listing, session_row}
-use Rattle.ftl0_session.proofs.downloads.FileLemmas.{all-complete}
-use Rattle.air_files.specs.Dialogue.{IsOfListing}
-use Rattle.air_files.specs.SoundStore.{IsSoundStore}
+use Rattle.ftl0_session.specs.Downloads.Table.{directory_row}
+use Rattle.ftl0_session.specs.Table.{Row, error_row}
+use Rattle.air_files.proofs.Names.{Ok, Err, Result, nat_lt, AllByRecursion, flat_map, list_all, All-nil, CallSign, IsOctets, Fits, PacketValue, dir_short_cmd, dl_error_resp, select_cmd, Tree, Store, DownloadsLaw, AreComplete, IsDueIn, octets_due, DownloadRow, Due, chosen, files_row, has_file, listed_files, lists_after, octets_in, refused_row, select_row, short_due, short_octets, tree_row, CallerList, State, by_download, command, download_part, listing, session_row, all-complete, IsOfListing, IsSoundStore}
 use Rattle.air_files.proofs.ListFiles.{chosen-few, chosen-files, selected-files, taking-files}
 use Rattle.air_files.proofs.ShortOctets.{shorts-octets}
 

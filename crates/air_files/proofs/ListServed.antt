@@ -1,20 +1,8 @@
 -- What comes to a session of a list, and what it queues of itself.
 use Rattle.std.proofs.Common.{◌≡◌, ◌⊎◌, inl, inr, ℕ, ◌<◌, ◌==◌, List, [], ◌∷◌, ◌++◌, length, map, take, refl, ap, sym}
 use Rattle.std.proofs.Common.{◌∙◌, subst, false, Some, arith, length-take}
-use Rattle.std.specs.Prelude.{Ok}
-use Rattle.std.proofs.lemmas.Bool.Decides.{nat_tests}
-use Rattle.std.proofs.lemmas.List.Elements.{All-drop, All-take}
-use Rattle.px_base.specs.Octets.{IsOctets}
-use Rattle.ftl0_packets.specs.Layout.{Item, PacketValue, data_end, data_part, dir_short_cmd, download_cmd, select_cmd}
-use Rattle.file_store.specs.Store.{Store}
-use Rattle.ftl0_session.specs.Downloads.Needs.{AreStored}
-use Rattle.ftl0_session.specs.Downloads.Sending.{after_octets, joined, most_data}
-use Rattle.ftl0_session.specs.Downloads.Table.{Due}
-use Rattle.ftl0_session.specs.Table.{DuePacket, State, command, listing, next_due}
-use Rattle.ftl0_session.proofs.downloads.DueLemmas.{joined-after, stored-after}
-use Rattle.air_attempt.specs.Lists.{AreFirstOf, Has}
-use Rattle.air_attempt.proofs.Offered.{each-at}
-use Rattle.air_files.specs.Dialogue.{IsListSaid}
+use Rattle.ftl0_session.specs.Table.{DuePacket}
+use Rattle.air_files.proofs.Names.{Ok, nat_tests, All-drop, All-take, IsOctets, Item, PacketValue, data_end, data_part, dir_short_cmd, download_cmd, select_cmd, Store, AreStored, after_octets, joined, most_data, Due, State, command, listing, next_due, joined-after, stored-after, AreFirstOf, Has, each-at, IsListSaid}
 use Rattle.air_files.proofs.ListRows.{IsListReply, IsListed, waits-command}
 
 -- ---- what its client said

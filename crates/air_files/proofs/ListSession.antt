@@ -1,28 +1,12 @@
 -- One entry of a session that selects and lists keeps its client's facts.
 use Rattle.std.proofs.Common.{◌≡◌, ◌≢◌, ◌⊎◌, inl, inr, ℕ, List, [], ◌∷◌, ◌++◌, refl, ap, sym, ◌∙◌, subst, Bool, true}
 use Rattle.std.proofs.Common.{false, Option, append-nil}
-use Rattle.std.specs.Prelude.{IfSome}
-use Rattle.std.specs.List.{AllByRecursion}
-use Rattle.ftl0_packets.specs.Layout.{Fits, Item, PacketValue, data_end, data_part, dl_error_resp, select_resp}
 use Rattle.file_store.specs.Command.{after_all}
-use Rattle.ftl0_session.specs.DownloadLaws.{DownloadsLaw}
-use Rattle.ftl0_session.specs.Downloads.Needs.{AreComplete}
-use Rattle.ftl0_session.specs.Downloads.Table.{Due}
-use Rattle.ftl0_session.specs.Run.{Session}
-use Rattle.ftl0_session.specs.Table.{Row, State, command, listing, receiving, session_row}
+use Rattle.ftl0_session.specs.Table.{Row}
 use Rattle.ftl0_server.specs.Entries as session
-use Rattle.ftl0_server.specs.Entries.{GoesBy, SessionEntry, after_row, row_of}
-use Rattle.ftl0_job.specs.declared.work.Work.{Work}
+use Rattle.ftl0_server.specs.Entries.{GoesBy, row_of}
 use Rattle.ftl0_job.specs.declared.work.Work.TheVariants as work
-use Rattle.ftl0_job.specs.Directory.{Directory}
-use Rattle.air_attempt.specs.Attempt.{Attempt}
-use Rattle.air_attempt.specs.Laws.{ServerTookFront}
-use Rattle.air_attempt.specs.Party.{Asked, EachAttempt, Party}
-use Rattle.air_attempt.specs.Sides.{ServerSide, said_by_client}
-use Rattle.air_attempt.proofs.Offered.{each-append, each-weaker, flat_map-one}
-use Rattle.air_files.specs.Dialogue.{IsDueNow, IsListSaid, IsOfListing, Says, Serves, ServesList}
-use Rattle.air_files.specs.Laws.{IsDirectoryOf, IsOne, IsServed, SessionGoes, SessionKeeps, SessionLawOf, session_gone}
-use Rattle.air_files.specs.Laws.{with_attempt}
+use Rattle.air_files.proofs.Names.{IfSome, AllByRecursion, Fits, Item, PacketValue, data_end, data_part, dl_error_resp, select_resp, DownloadsLaw, AreComplete, Due, Session, State, command, listing, receiving, session_row, SessionEntry, after_row, Work, Directory, Attempt, ServerTookFront, Asked, EachAttempt, Party, ServerSide, said_by_client, each-append, each-weaker, flat_map-one, IsDueNow, IsListSaid, IsOfListing, Says, Serves, ServesList, IsDirectoryOf, IsOne, IsServed, SessionGoes, SessionKeeps, SessionLawOf, session_gone, with_attempt}
 use Rattle.air_files.proofs.FetchesOn.{ComesOn, fetching-on}
 use Rattle.air_files.proofs.GoneLemmas.{facts-over}
 use Rattle.air_files.proofs.ListRows.{IsListReply, IsListRow, IsListed, list-row}

@@ -1,20 +1,9 @@
 -- The facts of a client of which nothing was asked; with a further upload; and with its task.
 use Rattle.std.proofs.Common.{◌==◌, false, ◌≡◌, ◌⊎◌, ℕ, zero, suc, List, [], ◌∷◌, ◌++◌, refl, ap, sym, ◌∙◌, Option}
 use Rattle.std.proofs.Common.{None, Some, inl, inr}
-use Rattle.std.specs.Prelude.{slice_get}
-use Rattle.std.specs.Option.{option_and_then, option_map}
-use Rattle.std.proofs.lemmas.Bool.Decides.{eqb_tells}
-use Rattle.std.proofs.lemmas.Option.{same_Some}
-use Rattle.px_base.specs.CallSign.{CallSign}
 use Rattle.ax25_link.specs.Window.{Window}
-use Rattle.file_store.specs.Store.{Store, empty_store}
-use Rattle.client_notes.specs.Answers.{noted_as, noted_at}
-use Rattle.client_notes.specs.Notes.{Lists, Task, no_notes, task_of}
 use Rattle.client_notes.specs.declared.answers.Noted.TheVariants as noted
-use Rattle.air_attempt.specs.Party.{Asked, IsFileOf, Party, first_party, upload_of}
-use Rattle.air_files.specs.Facts.{HasFacts}
-use Rattle.air_files.specs.Laws.{Stands}
-use Rattle.air_files.specs.Tasks.{IsTaskFor}
+use Rattle.air_files.proofs.Names.{slice_get, option_and_then, option_map, eqb_tells, same_Some, CallSign, Store, empty_store, noted_as, noted_at, Lists, Task, no_notes, task_of, Asked, IsFileOf, Party, first_party, upload_of, HasFacts, Stands, IsTaskFor}
 use Rattle.air_files.proofs.ApartLemmas.{HasFactsApart, apart, together}
 
 -- ---- places of a list

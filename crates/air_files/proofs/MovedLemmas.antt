@@ -2,28 +2,9 @@
 -- and with the newest one gone on.
 use Rattle.std.proofs.Common.{◌≡◌, inl, inr, ℕ, List, [], ◌∷◌, ◌++◌, refl, ap, sym, ◌∙◌, subst, arith, true, Option}
 use Rattle.std.proofs.Common.{None, Some}
-use Rattle.std.specs.Prelude.{IfSome, slice_get}
-use Rattle.std.specs.List.{AllByRecursion}
-use Rattle.std.specs.Option.{option_map}
-use Rattle.std.proofs.lemmas.Bool.Decides.{eqb_tells}
-use Rattle.px_base.specs.CallSign.{CallSign}
-use Rattle.file_entries.specs.Follows.{KeepsEntries}
-use Rattle.file_store.specs.Store.{Store, entry_of}
-use Rattle.ftl0_job.specs.declared.ending.Ending.{Ending}
-use Rattle.ftl0_job.specs.declared.phases.DownloadPhase.{DownloadPhase}
 use Rattle.ftl0_job.specs.declared.phases.DownloadPhase.TheVariants as fetch
-use Rattle.ftl0_job.specs.declared.work.Work.{Work}
 use Rattle.ftl0_job.specs.declared.work.Work.TheVariants as work
-use Rattle.ftl0_job.specs.Download.{Download}
-use Rattle.ftl0_job.specs.Upload.{Upload, new_upload}
-use Rattle.air_attempt.specs.Attempt.{Attempt}
-use Rattle.air_attempt.specs.Party.{Asked, IsFileOf, Party, all_over, over, sessions_over}
-use Rattle.air_attempt.specs.Said.{AsksUpload, Grants}
-use Rattle.air_attempt.specs.Sides.{ServerSide}
-use Rattle.air_attempt.proofs.Offered.{one-map}
-use Rattle.air_files.specs.Facts.{AreFirstIfAny, Fetches, FetchesBy, FetchesIn, HasFacts, HasNumber, IsBegun}
-use Rattle.air_files.specs.Facts.{IsFetching, IsGrantKept, IsGranted, IsNumbered, coming_by, got}
-use Rattle.air_files.specs.Kept.{IsFileAt, WhereStands}
+use Rattle.air_files.proofs.Names.{IfSome, slice_get, AllByRecursion, option_map, eqb_tells, CallSign, KeepsEntries, Store, entry_of, Ending, DownloadPhase, Work, Download, Upload, new_upload, Attempt, Asked, IsFileOf, Party, all_over, over, sessions_over, AsksUpload, Grants, ServerSide, one-map, AreFirstIfAny, Fetches, FetchesBy, FetchesIn, HasFacts, HasNumber, IsBegun, IsFetching, IsGrantKept, IsGranted, IsNumbered, coming_by, got, IsFileAt, WhereStands}
 use Rattle.air_files.proofs.ApartLemmas.{GrantFact, HasClientFacts, HasFactsApart, HasSideFacts, apart, together}
 use Rattle.air_files.proofs.GrowingLemmas.{StayOthers}
 use Rattle.air_files.proofs.LikeLemmas.{like-client, like-side, number-like}

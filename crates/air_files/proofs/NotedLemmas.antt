@@ -1,20 +1,8 @@
 -- The facts of a client with other notes, in which its tasks have the numbers that they had, and the same was got.
 use Rattle.std.proofs.Common.{◌≡◌, ℕ, ◌≤◌, List, ◌++◌, length, ap, sym, ◌∙◌, subst, Option, None, Some}
-use Rattle.pfh_items.specs.Faults.{fault_code}
-use Rattle.file_store.specs.Store.{Store}
-use Rattle.ftl0_job.specs.declared.ending.Ending.{Ending}
-use Rattle.ftl0_job.specs.declared.phases.DownloadPhase.{DownloadPhase}
 use Rattle.ftl0_job.specs.declared.phases.DownloadPhase.TheVariants as fetch
-use Rattle.ftl0_job.specs.declared.work.Work.{Work}
 use Rattle.ftl0_job.specs.declared.work.Work.TheVariants as work
-use Rattle.ftl0_job.specs.Download.{Download}
-use Rattle.ftl0_job.specs.JobState.{IsCheckedIn}
-use Rattle.air_attempt.specs.Attempt.{Attempt}
-use Rattle.air_attempt.specs.Party.{Party}
-use Rattle.air_attempt.specs.Sides.{ServerSide}
-use Rattle.air_files.specs.Facts.{AreFirstIfAny, Fetches, FetchesBy, FetchesIn, HasNumber, IsBegun, IsGrantKept}
-use Rattle.air_files.specs.Facts.{Receives, coming_by, got}
-use Rattle.air_files.specs.Kept.{WhereStands}
+use Rattle.air_files.proofs.Names.{fault_code, Store, Ending, DownloadPhase, Work, Download, IsCheckedIn, Attempt, Party, ServerSide, AreFirstIfAny, Fetches, FetchesBy, FetchesIn, HasNumber, IsBegun, IsGrantKept, Receives, coming_by, got, WhereStands}
 use Rattle.air_files.proofs.ApartLemmas.{HasClientFacts, HasSideFacts}
 use Rattle.air_files.proofs.ReceivesAs.{receives-as}
 

@@ -1,22 +1,7 @@
 -- Facts in a store in which the client's own entries stand as they did, or are gone where no session receives them.
 use Rattle.std.proofs.Common.{◌≡◌, ◌≢◌, ◌⊎◌, ℕ, ◌<◌, List, refl, ap, sym, ◌∙◌, subst, arith, true, Option, None, Some}
 use Rattle.std.proofs.Common.{inl, inr}
-use Rattle.std.proofs.lemmas.Option.{same_Some}
-use Rattle.std.proofs.lemmas.Bool.Decides.{eqb_tells}
-use Rattle.px_base.specs.CallSign.{CallSign, IsCall}
-use Rattle.file_entries.specs.Follows.{FollowsBy, FollowsLaw, KeepsEntries}
-use Rattle.file_store.specs.Command.{after, drop_entry}
-use Rattle.file_store.specs.Store.{Entry, Store, entry_of, partial}
-use Rattle.file_store.proofs.Offered.{find-filter_other}
-use Rattle.ftl0_session.specs.Downloads.Laws.{DueStaysLaw}
-use Rattle.ftl0_session.specs.Table.{receiving}
-use Rattle.air_attempt.specs.Attempt.{Attempt}
-use Rattle.air_attempt.specs.Lists.{Has}
-use Rattle.air_attempt.specs.Party.{Asked, EachSide, Party, newest}
-use Rattle.air_attempt.specs.Sides.{ServerSide}
-use Rattle.air_files.specs.Facts.{HasFacts, IsBegun, IsGrantKept, IsNumbered, Receives}
-use Rattle.air_files.specs.Kept.{IsFileAt, IsUnderWay, WhereStands}
-use Rattle.air_files.specs.SoundStore.{IsSoundStore}
+use Rattle.air_files.proofs.Names.{same_Some, eqb_tells, CallSign, IsCall, FollowsBy, FollowsLaw, KeepsEntries, after, drop_entry, Entry, Store, entry_of, partial, find-filter_other, DueStaysLaw, receiving, Attempt, Has, Asked, EachSide, Party, newest, ServerSide, HasFacts, IsBegun, IsGrantKept, IsNumbered, Receives, IsFileAt, IsUnderWay, WhereStands, IsSoundStore}
 use Rattle.air_files.proofs.ApartLemmas.{HasFactsApart, HasSideFacts, ReceiveFact, apart, together}
 use Rattle.air_files.proofs.LiftLemmas.{each-side, side-at}
 use Rattle.air_files.proofs.StableLemmas.{keeps-complete, keeps-due, keeps-fetching_some, keeps-first_any, keeps-kept}

@@ -1,16 +1,6 @@
 -- A number is that of one task alone, and was given for it alone.
 use Rattle.std.proofs.Common.{◌≡◌, ℕ, List, length, ap, sym, ◌∙◌, subst, arith, Some}
-use Rattle.std.specs.Prelude.{IfSome, slice_get}
-use Rattle.std.specs.List.{AllByRecursion}
-use Rattle.std.proofs.lemmas.Option.{same_Some}
-use Rattle.file_store.specs.Store.{Store}
-use Rattle.air_attempt.specs.Attempt.{Attempt}
-use Rattle.air_attempt.specs.Party.{Asked, IsFileOf, Party}
-use Rattle.air_attempt.specs.Said.{AsksUpload, Grants}
-use Rattle.air_attempt.specs.Sides.{ServerSide}
-use Rattle.air_attempt.proofs.Offered.{all-by, one-placed, some-from}
-use Rattle.air_files.specs.Facts.{HasFacts, HasNumber, IsGranted}
-use Rattle.air_files.specs.Laws.{GrantedAt, GrantsOnce}
+use Rattle.air_files.proofs.Names.{IfSome, slice_get, AllByRecursion, same_Some, Store, Attempt, Asked, IsFileOf, Party, AsksUpload, Grants, ServerSide, all-by, one-placed, some-from, HasFacts, HasNumber, IsGranted, GrantedAt, GrantsOnce}
 use Rattle.air_files.proofs.ApartLemmas.{GrantFact}
 use Rattle.air_files.proofs.LiftLemmas.{each-side, side-at}
 use Rattle.air_files.proofs.MovedLemmas.{OwnGrants, same-task}

@@ -1,24 +1,8 @@
 -- What an entry of a session keeps that has no command of the store and says nothing of uploading.
 use Rattle.std.proofs.Common.{◌≡◌, ◌≢◌, ℕ, zero, suc, List, [], ◌++◌, refl, ap, sym, ◌∙◌, subst, Bool, Some}
-use Rattle.std.specs.List.{AllByRecursion}
-use Rattle.ftl0_packets.specs.Layout.{Fits}
-use Rattle.file_entries.specs.Follows.{FollowsBy}
-use Rattle.file_store.specs.Command.{AreAllowed, DropsNothing}
-use Rattle.file_store.specs.OnDisk.{after_first}
-use Rattle.file_store.specs.Store.{Store}
-use Rattle.ftl0_session.specs.Downloads.Needs.{AreComplete}
-use Rattle.ftl0_session.specs.Run.{Session}
-use Rattle.ftl0_session.specs.Table.{State}
 use Rattle.ftl0_server.specs.Entries as session
-use Rattle.ftl0_server.specs.Entries.{SessionEntry}
 use Rattle.ftl0_job.specs.declared.work.Work.TheVariants as work
-use Rattle.ftl0_job.specs.Upload.{Upload}
-use Rattle.air_attempt.specs.Attempt.{Attempt}
-use Rattle.air_attempt.specs.Party.{Asked, Party, sessions_over}
-use Rattle.air_attempt.specs.Sides.{ServerSide}
-use Rattle.air_files.specs.Facts.{HasFacts, IsFetching}
-use Rattle.air_files.specs.Laws.{IsServed, LeftIn, SessionKeeps, session_gone, with_attempt}
-use Rattle.air_files.specs.SoundStore.{IsSoundStore}
+use Rattle.air_files.proofs.Names.{AllByRecursion, Fits, FollowsBy, AreAllowed, DropsNothing, after_first, Store, AreComplete, Session, State, SessionEntry, Upload, Attempt, Asked, Party, sessions_over, ServerSide, HasFacts, IsFetching, IsServed, LeftIn, SessionKeeps, session_gone, with_attempt, IsSoundStore}
 use Rattle.air_files.proofs.QuietLemmas.{IsQuiet, facts-quiet, grants-none}
 
 -- the session gone on by these entries

@@ -1,26 +1,8 @@
 -- What the newest session of a client, which says nothing of uploading, leaves of the client's facts as it goes on.
 use Rattle.std.proofs.Common.{◌≡◌, ◌≢◌, inl, inr, ℕ, List, [], ◌∷◌, refl, sym, ◌∙◌, subst, true, Option, None, Some}
-use Rattle.std.specs.Prelude.{IfSome, ⊤}
-use Rattle.std.specs.List.{AllByRecursion}
-use Rattle.ftl0_packets.specs.Layout.{Item, PacketValue, ul_ack_resp, ul_error_resp, ul_go_resp}
-use Rattle.file_store.specs.Info.{IsCompleteIn}
-use Rattle.file_store.specs.Store.{Store}
-use Rattle.ftl0_session.specs.Table.{receiving}
 use Rattle.ftl0_server.specs.Entries as session
-use Rattle.ftl0_server.specs.Entries.{SessionEntry}
-use Rattle.ftl0_job.specs.declared.work.Work.{Work}
 use Rattle.ftl0_job.specs.declared.work.Work.TheVariants as work
-use Rattle.ftl0_job.specs.Upload.{Upload, new_upload}
-use Rattle.air_attempt.specs.Attempt.{Attempt}
-use Rattle.air_attempt.specs.Lists.{Has, OneIs}
-use Rattle.air_attempt.specs.Party.{Asked, EachAttempt, Party}
-use Rattle.air_attempt.specs.Said.{Grants, IsAnswer, Offers, SaysComplete}
-use Rattle.air_attempt.specs.Sides.{ServerSide}
-use Rattle.air_attempt.proofs.Offered.{each-at, each-weaker, one-left, one-right}
-use Rattle.air_files.specs.Dialogue.{IsDueNow, Says, Serves}
-use Rattle.air_files.specs.Facts.{AskedWithin, GoesOnWithTask, HasFacts, HasFetched, HasNumber, HasSessionFacts}
-use Rattle.air_files.specs.Facts.{HasTaskFacts, IsFetching, IsGrantKept, IsGranted, IsOfferKept, NotesGrant, Receives}
-use Rattle.air_files.specs.Laws.{with_attempt}
+use Rattle.air_files.proofs.Names.{IfSome, ⊤, AllByRecursion, Item, PacketValue, ul_ack_resp, ul_error_resp, ul_go_resp, IsCompleteIn, Store, receiving, SessionEntry, Work, Upload, new_upload, Attempt, Has, OneIs, Asked, EachAttempt, Party, Grants, IsAnswer, Offers, SaysComplete, ServerSide, each-at, each-weaker, one-left, one-right, IsDueNow, Says, Serves, AskedWithin, GoesOnWithTask, HasFacts, HasFetched, HasNumber, HasSessionFacts, HasTaskFacts, IsFetching, IsGrantKept, IsGranted, IsOfferKept, NotesGrant, Receives, with_attempt}
 
 -- ---- what was said of uploading
 

@@ -1,12 +1,6 @@
 -- What a session receives it receives still, where store, client, attempt and session are others with the same of it.
-use Rattle.std.specs.Prelude.{◌≡◌, ℕ, ◌+◌, ◌≤◌, List, ◌++◌, length, take, Some}
-use Rattle.file_store.specs.Store.{Store, entry_of}
-use Rattle.air_attempt.specs.Attempt.{Attempt}
-use Rattle.air_attempt.specs.Party.{Party}
-use Rattle.air_attempt.specs.Said.{AsksUpload, Offers, octets_come, said_behind_server}
-use Rattle.air_attempt.specs.Sides.{ServerSide}
-use Rattle.air_files.specs.UploadDialogue.{GoesOnWith}
-use Rattle.air_files.specs.Facts.{Receives}
+use Rattle.std.specs.Prelude.{◌≡◌, ◌+◌, ◌≤◌, ◌++◌}
+use Rattle.air_files.proofs.Names.{ℕ, List, length, take, Some, Store, entry_of, Attempt, Party, AsksUpload, Offers, octets_come, said_behind_server, ServerSide, GoesOnWith, Receives}
 
 module _ {store now : Store} {party that : Party} {a b : Attempt} {side other : ServerSide} {number : ℕ} {rest : List ℕ}
     (r : Receives store party a side number rest) where

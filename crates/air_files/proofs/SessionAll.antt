@@ -1,31 +1,10 @@
 -- Any entries of a session keep the client's facts, by what one entry does.
 use Rattle.std.proofs.Common.{◌≡◌, ◌⊎◌, inl, inr, ℕ, suc, zero, List, [], ◌∷◌, ◌++◌, take, refl, ap, sym, ◌∙◌, subst}
 use Rattle.std.proofs.Common.{arith, append_assoc, append-nil, Bool, true, Option, None, Some}
-use Rattle.std.specs.Prelude.{IfSome, Ok, slice_get, ⊤}
-use Rattle.std.specs.List.{AllByRecursion}
-use Rattle.std.specs.Option.{option_map}
-use Rattle.std.proofs.lemmas.Option.{same_Some}
-use Rattle.ftl0_packets.specs.Layout.{Fits, ul_go_resp, upload_cmd}
-use Rattle.file_entries.specs.Follows.{FollowsBy}
-use Rattle.file_entries.proofs.Offered.{AreAllowed-append, follows_law}
-use Rattle.file_store.specs.Command.{AreAllowed, Command, DropsNothing, KeepsFile, after_all}
-use Rattle.file_store.specs.OnDisk.{after_first}
-use Rattle.file_store.specs.Store.{Store}
-use Rattle.file_store.proofs.Offered.{after_all-append}
-use Rattle.ftl0_session.specs.Run.{Session}
+use Rattle.file_store.specs.Command.{after_all}
 use Rattle.ftl0_server.specs.Entries as session
-use Rattle.ftl0_server.specs.Entries.{SessionEntry}
-use Rattle.ftl0_job.specs.declared.work.Work.{Work}
 use Rattle.ftl0_job.specs.declared.work.Work.TheVariants as work
-use Rattle.air_attempt.specs.Attempt.{Attempt}
-use Rattle.air_attempt.specs.Party.{Asked, Party, all_over, over, sessions_over}
-use Rattle.air_attempt.specs.Said.{AsksUpload, Grants, IsAnswer}
-use Rattle.air_attempt.specs.Sides.{ServerSide}
-use Rattle.air_attempt.proofs.Offered.{each-append, one-left}
-use Rattle.air_files.specs.Facts.{HasFacts, HasNumber}
-use Rattle.air_files.specs.Laws.{IsDirectoryOf, IsDownloadOf, IsOne, IsServed, IsUploadOf, LeftIn, LookLike}
-use Rattle.air_files.specs.Laws.{LooksServed, SessionGoes, SessionKeeps, SessionLaw, SessionLawOf, session_gone}
-use Rattle.air_files.specs.Laws.{with_attempt}
+use Rattle.air_files.proofs.Names.{IfSome, Ok, slice_get, ⊤, AllByRecursion, option_map, same_Some, Fits, ul_go_resp, upload_cmd, FollowsBy, AreAllowed-append, follows_law, AreAllowed, Command, DropsNothing, KeepsFile, after_first, Store, after_all-append, Session, SessionEntry, Work, Attempt, Asked, Party, all_over, over, sessions_over, AsksUpload, Grants, IsAnswer, ServerSide, each-append, one-left, HasFacts, HasNumber, IsDirectoryOf, IsDownloadOf, IsOne, IsServed, IsUploadOf, LeftIn, LookLike, LooksServed, SessionGoes, SessionKeeps, SessionLaw, SessionLawOf, session_gone, with_attempt}
 use Rattle.air_files.proofs.ApartLemmas.{GrantFact}
 use Rattle.air_files.proofs.GoneLemmas.{alike-itself, facts-over, facts-same}
 use Rattle.air_files.proofs.LikeLemmas.{number-like}

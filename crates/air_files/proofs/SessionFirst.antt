@@ -1,26 +1,9 @@
 -- Entries of a session one after another: the first one, and the client behind it.
 use Rattle.std.proofs.Common.{◌≡◌, ◌⊎◌, inl, inr, ℕ, suc, zero, ◌≤◌, ◌<◌, List, [], ◌∷◌, ◌++◌, map, refl, ap, sym, ◌∙◌}
 use Rattle.std.proofs.Common.{subst, arith, append_assoc, true}
-use Rattle.std.specs.Prelude.{Ok, slice_get}
-use Rattle.std.specs.List.{AllByRecursion}
-use Rattle.std.proofs.lemmas.List.{map-append}
-use Rattle.std.proofs.lemmas.List.Concat.{flat_map-append}
-use Rattle.std.proofs.lemmas.Option.{same_Some}
-use Rattle.px_base.specs.CallSign.{CallSign}
-use Rattle.ftl0_packets.specs.Layout.{Item, PacketValue}
 use Rattle.file_store.specs.Command.{after_all}
-use Rattle.ftl0_session.specs.Run.{Session}
 use Rattle.ftl0_server.specs.Entries as session
-use Rattle.ftl0_server.specs.Entries.{SessionEntry, after_row}
-use Rattle.client_notes.specs.Notes.{Task}
-use Rattle.air_attempt.specs.Attempt.{Attempt}
-use Rattle.air_attempt.specs.Laws.{ClientTookFront, ServerTookFront}
-use Rattle.air_attempt.specs.Party.{Asked, Party}
-use Rattle.air_attempt.specs.Said.{Grants}
-use Rattle.air_attempt.specs.Sides.{ServerSide, said_by_server}
-use Rattle.air_attempt.proofs.Offered.{each-append, has-at}
-use Rattle.air_files.specs.Laws.{GrantedAt, GrantsOnce, IsServed, SessionKeeps, Stands, session_gone, with_attempt}
-use Rattle.air_files.specs.Tasks.{IsTaskFor, IsWork}
+use Rattle.air_files.proofs.Names.{Ok, slice_get, AllByRecursion, map-append, flat_map-append, same_Some, CallSign, Item, PacketValue, Session, SessionEntry, after_row, Task, Attempt, ClientTookFront, ServerTookFront, Asked, Party, Grants, ServerSide, said_by_server, each-append, has-at, GrantedAt, GrantsOnce, IsServed, SessionKeeps, Stands, session_gone, with_attempt, IsTaskFor, IsWork}
 use Rattle.air_files.proofs.ApartLemmas.{GrantFact}
 use Rattle.air_files.proofs.EntryLemmas.{said-gone, with_entry}
 use Rattle.air_files.proofs.LiftLemmas.{side-at}

@@ -1,33 +1,12 @@
 -- One entry of a session of an upload keeps the client's facts.
 use Rattle.std.proofs.Common.{◌≡◌, inl, inr, ℕ, List, [], ◌∷◌, ◌++◌, length, refl, ap, sym, ◌∙◌, subst, append-nil, Bool, true}
-use Rattle.std.specs.Prelude.{Ok}
-use Rattle.std.specs.List.{AllByRecursion}
-use Rattle.ftl0_packets.specs.Layout.{Fits, Item, ul_error_resp, ul_go_resp, upload_cmd}
-use Rattle.file_store.specs.Command.{AreAllowed, Command, DropsNothing}
-use Rattle.file_store.specs.OnDisk.{after_first}
-use Rattle.file_store.specs.Store.{Store}
-use Rattle.ftl0_session.specs.Downloads.Laws.{ListsStayLaw}
-use Rattle.ftl0_session.specs.Downloads.Needs.{AreComplete}
-use Rattle.ftl0_session.specs.Laws.{AcknowledgedLaw, UploadsLaw}
-use Rattle.ftl0_session.specs.Run.{Session}
 use Rattle.ftl0_session.specs.Table.{Row}
 use Rattle.ftl0_server.specs.Entries as session
-use Rattle.ftl0_server.specs.Entries.{SessionEntry, after_row, row_of}
-use Rattle.server_laws.specs.Rows.{CallerLaw}
-use Rattle.ftl0_job.specs.declared.work.Work.{Work}
+use Rattle.ftl0_server.specs.Entries.{row_of}
 use Rattle.ftl0_job.specs.declared.work.Work.TheVariants as work
-use Rattle.ftl0_job.specs.Upload.{Upload}
-use Rattle.air_attempt.specs.Attempt.{Attempt}
-use Rattle.air_attempt.specs.Laws.{ServerTookFront}
-use Rattle.air_attempt.specs.Party.{Asked, Party}
-use Rattle.air_attempt.specs.Said.{octets_of_data}
-use Rattle.air_attempt.specs.Sides.{ServerSide, said_by_client}
-use Rattle.air_files.specs.Dialogue.{Serves}
-use Rattle.air_files.specs.Facts.{HasFacts, coming_by}
-use Rattle.air_files.specs.Laws.{AreNewGrants, IsOne, IsServed, IsUploadOf, LeftIn, SessionGoes, SessionKeeps}
-use Rattle.air_files.specs.Laws.{SessionLawOf, session_gone, with_attempt}
-use Rattle.air_files.specs.UploadDialogue.{AnsweredFirst, Receiving, ServesUpload, answered_in, ended, receives}
-use Rattle.air_files.specs.UploadDialogue.{refused, unasked}
+use Rattle.air_files.specs.UploadDialogue.{ended}
+use Rattle.air_files.specs.UploadDialogue.{refused}
+use Rattle.air_files.proofs.Names.{Ok, AllByRecursion, Fits, Item, ul_error_resp, ul_go_resp, upload_cmd, AreAllowed, Command, DropsNothing, after_first, Store, ListsStayLaw, AreComplete, AcknowledgedLaw, UploadsLaw, Session, SessionEntry, after_row, CallerLaw, Work, Upload, Attempt, ServerTookFront, Asked, Party, octets_of_data, ServerSide, said_by_client, Serves, HasFacts, coming_by, AreNewGrants, IsOne, IsServed, IsUploadOf, LeftIn, SessionGoes, SessionKeeps, SessionLawOf, session_gone, with_attempt, AnsweredFirst, Receiving, ServesUpload, answered_in, receives, unasked}
 use Rattle.air_files.proofs.ApartLemmas.{HasSideFacts}
 use Rattle.air_files.proofs.EntryLemmas.{answered-more, answers-cases, answers-still, coming-gone, said-more}
 use Rattle.air_files.proofs.EntryLemmas.{with_entry}

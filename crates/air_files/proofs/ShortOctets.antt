@@ -1,25 +1,14 @@
 -- The short form of the header of a complete file is octets (PFH 1990, mandatory header).
 use Rattle.std.proofs.Common.{◌≡◌, ℕ, ◌≤◌, ◌<◌, ◌==◌, List, [], ◌∷◌, ◌++◌, length, map, refl, ap, sym, ◌∙◌, subst, cond}
 use Rattle.std.proofs.Common.{Bool, true, false, Option, None, Some, arith}
-use Rattle.std.specs.Prelude.{find, IsTrue, option_map, unwrap_or}
-use Rattle.std.specs.List.{AllByRecursion, flat_map}
-use Rattle.std.proofs.lemmas.List.Elements.{All-append, All-cons, All-head, All-nil, All-tail}
+use Rattle.std.specs.Prelude.{option_map}
 use Rattle.px_base.specs.Numbers.{le16_octets}
-use Rattle.px_base.specs.Octets.{IsOctets}
-use Rattle.pfh_items.specs.Faults.{content_of, fault_code, header_sum, with_content}
 use Rattle.pfh_items.specs.Layout.{AreItems, HeaderValue, IsItem, ItemValue, end_item, header_start, header_text}
 use Rattle.pfh_items.specs.Layout.{item_text, items_text}
 use Rattle.pfh_items.specs.Table.{mandatory_items}
 use Rattle.pfh_items.specs.declared.table.MandatoryItem.{MandatoryItem}
-use Rattle.pfh_items.proofs.Offered.{IsOctets-le16, file_parts-text, no_fault}
 use Rattle.pfh_writer.specs.Short.{short_items}
-use Rattle.pfh_writer.proofs.StampedLemmas.{no_fault-code}
-use Rattle.file_store.specs.Info.{IsCompleteIn, is_complete}
-use Rattle.file_store.specs.Headers.{KeepsRules, header_items, parts_or_none}
-use Rattle.file_store.specs.Store.{Entry, Holding, Store, complete, octets_at, octets_of, partial}
-use Rattle.ftl0_session.specs.Downloads.Needs.{AreFiles}
-use Rattle.ftl0_session.specs.Downloads.Table.{octets_in, short_octets}
-use Rattle.air_files.specs.SoundStore.{IsSoundStore}
+use Rattle.air_files.proofs.Names.{find, IsTrue, unwrap_or, AllByRecursion, flat_map, All-append, All-cons, All-head, All-nil, All-tail, IsOctets, content_of, fault_code, header_sum, with_content, IsOctets-le16, file_parts-text, no_fault, no_fault-code, IsCompleteIn, is_complete, KeepsRules, header_items, parts_or_none, Entry, Holding, Store, complete, octets_at, octets_of, partial, AreFiles, octets_in, short_octets, IsSoundStore}
 use Rattle.air_files.proofs.FileOctets.{octets-entry}
 use Rattle.air_files.proofs.StoreLemmas.{found-such}
 

@@ -1,27 +1,9 @@
 -- The facts of a session with one more entry, and what an entry's row has to do that the client keeps its facts.
 use Rattle.std.proofs.Common.{◌≡◌, ◌⊎◌, inl, inr, ℕ, ◌≤◌, List, [], ◌∷◌, length, refl, ap, subst, Bool, Some}
-use Rattle.std.specs.Prelude.{IfSome, Ok}
-use Rattle.std.specs.List.{AllByRecursion}
-use Rattle.ftl0_packets.specs.Layout.{Fits, Item, PacketValue, ul_ack_resp, ul_error_resp, ul_go_resp, upload_cmd}
 use Rattle.file_store.specs.Command.{after_all}
-use Rattle.file_store.specs.Info.{IsCompleteIn}
-use Rattle.file_store.specs.OnDisk.{after_first}
-use Rattle.file_store.specs.Store.{Store, entry_of}
-use Rattle.file_store.proofs.Offered.{after_first-all}
-use Rattle.ftl0_session.specs.Run.{Session}
-use Rattle.ftl0_session.specs.Table.{Row, State}
+use Rattle.ftl0_session.specs.Table.{Row}
 use Rattle.ftl0_server.specs.Entries as session
-use Rattle.ftl0_server.specs.Entries.{SessionEntry}
-use Rattle.air_attempt.specs.Attempt.{Attempt}
-use Rattle.air_attempt.specs.Lists.{Has}
-use Rattle.air_attempt.specs.Party.{Asked, EachAttempt, EachSide, IsFileOf, Party, over}
-use Rattle.air_attempt.specs.Said.{Acknowledges, IsAnswer, octets_of_data}
-use Rattle.air_attempt.specs.Sides.{ServerSide, said_by_server}
-use Rattle.air_attempt.proofs.Offered.{some-at}
-use Rattle.air_files.specs.Dialogue.{Serves}
-use Rattle.air_files.specs.Facts.{HasNumber, IsGrantKept, IsOfferKept}
-use Rattle.air_files.specs.Kept.{IsFileAt}
-use Rattle.air_files.specs.Laws.{IsServed, LeftIn, with_attempt}
+use Rattle.air_files.proofs.Names.{IfSome, Ok, AllByRecursion, Fits, Item, PacketValue, ul_ack_resp, ul_error_resp, ul_go_resp, upload_cmd, IsCompleteIn, after_first, Store, entry_of, after_first-all, Session, State, SessionEntry, Attempt, Has, Asked, EachAttempt, EachSide, IsFileOf, Party, over, Acknowledges, IsAnswer, octets_of_data, ServerSide, said_by_server, some-at, Serves, HasNumber, IsGrantKept, IsOfferKept, IsFileAt, IsServed, LeftIn, with_attempt}
 use Rattle.air_files.proofs.ApartLemmas.{DueFact, HasSideFacts, ReceiveFact, apart}
 use Rattle.air_files.proofs.EntryLemmas.{AreRowCommands, answers-cases, row-follows, row-keeps, row-sound, says-cases, with_entry}
 use Rattle.air_files.proofs.GrowingLemmas.{StayOthers}

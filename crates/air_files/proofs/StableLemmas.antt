@@ -1,29 +1,12 @@
 -- What a store that follows another keeps of a client's facts.
 use Rattle.std.proofs.Common.{◌≡◌, ℕ, List, refl, ap, sym, ◌∙◌, subst, arith, Option, None, Some}
-use Rattle.std.specs.Prelude.{IfSome, IsTrue, option_and_then}
-use Rattle.px_base.specs.CallSign.{CallSign}
-use Rattle.px_base.specs.Octets.{IsOctets}
-use Rattle.file_entries.specs.Follows.{KeepsEntries}
+use Rattle.std.specs.Prelude.{option_and_then}
 use Rattle.file_store.specs.EntriesKept.{KeepsComplete}
-use Rattle.file_store.specs.Info.{IsCompleteIn, is_complete}
-use Rattle.file_store.specs.Store.{Entry, Holding, Store, complete, entry_of, partial}
-use Rattle.ftl0_session.specs.Downloads.Laws.{DueStaysLaw}
-use Rattle.ftl0_session.specs.Downloads.Table.{complete_octets, file_of}
-use Rattle.ftl0_session.specs.Table.{download_part}
-use Rattle.ftl0_job.specs.declared.ending.Ending.{Ending}
-use Rattle.ftl0_job.specs.declared.phases.DownloadPhase.{DownloadPhase}
 use Rattle.ftl0_job.specs.declared.phases.DownloadPhase.TheVariants as fetch
-use Rattle.ftl0_job.specs.declared.work.Work.{Work}
 use Rattle.ftl0_job.specs.declared.work.Work.TheVariants as work
-use Rattle.ftl0_job.specs.Download.{Download}
-use Rattle.air_attempt.specs.Attempt.{Attempt}
-use Rattle.air_attempt.specs.Party.{Asked, Party, newest}
-use Rattle.air_attempt.specs.Sides.{ServerSide}
-use Rattle.air_files.specs.Dialogue.{IsDueNow, Serves}
-use Rattle.air_files.specs.DownloadDialogue.{AreSent, AreSentFrom, Sending, ended, refused, sends, unasked, waits}
-use Rattle.air_files.specs.Facts.{AreFirstIfAny, AreFirstOf, Fetches, FetchesBy, FetchesIn, HasGotFacts, IsFetching}
-use Rattle.air_files.specs.Facts.{IsOfferKept}
-use Rattle.air_files.specs.Kept.{HoldsTo, IsKept, IsTaskKept}
+use Rattle.air_files.specs.DownloadDialogue.{unasked}
+use Rattle.air_files.specs.Facts.{AreFirstOf}
+use Rattle.air_files.proofs.Names.{IfSome, IsTrue, CallSign, IsOctets, KeepsEntries, IsCompleteIn, is_complete, Entry, Holding, Store, complete, entry_of, partial, DueStaysLaw, complete_octets, file_of, download_part, Ending, DownloadPhase, Work, Download, Attempt, Asked, Party, newest, ServerSide, IsDueNow, Serves, AreSent, AreSentFrom, Sending, ended, refused, sends, waits, AreFirstIfAny, Fetches, FetchesBy, FetchesIn, HasGotFacts, IsFetching, IsOfferKept, HoldsTo, IsKept, IsTaskKept}
 
 -- ---- by the complete entries alone
 

@@ -1,17 +1,7 @@
 -- A sound store stays sound by commands that bring octets; and what it has of an entry that is dropped.
 use Rattle.std.proofs.Common.{◌≡◌, ℕ, ◌+◌, ◌≤◌, not, List, [], ◌∷◌, filter, refl, sym, subst, arith, None, Some, ◌==◌}
 use Rattle.std.proofs.Common.{Bool, true, false, cond}
-use Rattle.std.specs.Prelude.{find, IsTrue}
-use Rattle.std.specs.List.{AllByRecursion}
-use Rattle.std.proofs.lemmas.Bool.Decides.{nat_tests}
-use Rattle.px_base.specs.Octets.{IsOctets}
-use Rattle.file_entries.specs.Follows.{BringsOctets, FollowsLaw, HaveFiles, KeepsEntries}
-use Rattle.file_store.specs.Command.{Command, DoesAll, HaveCalls, after, drop_entry, is_partial, passes}
-use Rattle.file_store.specs.Headers.{KeepsRules}
-use Rattle.file_store.specs.IsStore.{AreEntries, IsStore}
-use Rattle.file_store.specs.Store.{Entry, Store, entry_of, octets_of, partial}
-use Rattle.file_store.proofs.Offered.{has_number}
-use Rattle.air_files.specs.SoundStore.{IsSoundStore}
+use Rattle.air_files.proofs.Names.{find, IsTrue, AllByRecursion, nat_tests, IsOctets, BringsOctets, FollowsLaw, HaveFiles, KeepsEntries, Command, DoesAll, HaveCalls, after, drop_entry, is_partial, passes, KeepsRules, AreEntries, IsStore, Entry, Store, entry_of, octets_of, partial, has_number, IsSoundStore}
 
 -- what is found is such as all are
 pub found-such : {X : Type 0} (P : X → Type 0) (test : X → Bool) (xs : List X) (x : X) → find test xs ≡ Some x

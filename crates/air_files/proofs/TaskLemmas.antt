@@ -2,20 +2,8 @@
 use Rattle.std.proofs.Common.{◌≡◌, ◌⊎◌, ⊎_elim, ℕ, ◌-◌, List, [], ◌∷◌, ◌++◌, length, refl, ap, sym, ◌∙◌, arith, Option}
 use Rattle.std.proofs.Common.{None, Some, inl, inr}
 use Rattle.sha2.specs.Sha256.{sha256}
-use Rattle.std.specs.Prelude.{slice_get}
-use Rattle.std.specs.Option.{option_and_then, option_map}
-use Rattle.std.proofs.lemmas.Bool.Decides.{eqb_tells}
-use Rattle.file_store.specs.Store.{Store}
-use Rattle.client_notes.specs.Answers.{noted_as}
-use Rattle.client_notes.specs.Command.{new_task}
-use Rattle.client_notes.specs.Notes.{Lists, Task, task_of}
 use Rattle.client_notes.specs.declared.answers.Noted.TheVariants as noted
-use Rattle.client_notes.proofs.Offered.{task-at, task-more}
-use Rattle.air_attempt.specs.Party.{Asked, IsFileOf, Party, newest, upload_of}
-use Rattle.air_attempt.proofs.Offered.{each-weaker, some-weaker}
-use Rattle.air_files.specs.Facts.{HasFacts, HasNumber, IsNumbered}
-use Rattle.air_files.specs.Kept.{HoldsAck}
-use Rattle.air_files.specs.Laws.{Stands}
+use Rattle.air_files.proofs.Names.{slice_get, option_and_then, option_map, eqb_tells, Store, noted_as, new_task, Lists, Task, task_of, task-at, task-more, Asked, IsFileOf, Party, newest, upload_of, each-weaker, some-weaker, HasFacts, HasNumber, IsNumbered, HoldsAck, Stands}
 use Rattle.air_files.proofs.ApartLemmas.{HasFactsApart, apart, together}
 use Rattle.air_files.proofs.LongerLemmas.{acked-task, facts-longer, file-more, place-last, place-more, task-file}
 use Rattle.air_files.proofs.LongerLemmas.{task-some}

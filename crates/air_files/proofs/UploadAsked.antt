@@ -1,32 +1,12 @@
 -- UPLOAD_CMD to a session of an upload: the file is refused, begun, or goes on.
 use Rattle.std.proofs.Common.{◌≡◌, inl, inr, ℕ, ◌+◌, ◌<◌, List, [], ◌∷◌, ◌++◌, length, drop, take, append-nil}
 use Rattle.std.proofs.Common.{length-append, refl, ap, sym, ◌∙◌, subst, arith, Bool, true, Some}
-use Rattle.std.specs.Prelude.{Ok}
-use Rattle.std.proofs.lemmas.Bool.Decides.{Decides-eqb, nat_tests}
-use Rattle.std.proofs.lemmas.List.{take_at}
-use Rattle.std.proofs.lemmas.List.Elements.{All-nil}
-use Rattle.std.proofs.lemmas.Option.{same_Some}
-use Rattle.px_base.specs.Octets.{IsFront}
-use Rattle.ftl0_packets.specs.Layout.{Item, PacketValue, ul_ack_resp, ul_error_resp, ul_go_resp, upload_cmd}
-use Rattle.file_store.specs.Info.{IsCompleteIn}
-use Rattle.file_store.specs.Command.{Command, after_all, begin, can_begin}
-use Rattle.file_store.specs.Store.{Entry, Store, entry_of, new_entry, partial}
-use Rattle.ftl0_session.specs.Run.{Session}
-use Rattle.ftl0_session.specs.Table.{Row, State, command, receiving}
+use Rattle.file_store.specs.Command.{after_all}
+use Rattle.ftl0_session.specs.Table.{Row}
 use Rattle.ftl0_server.specs.Entries as session
-use Rattle.ftl0_server.specs.Entries.{SessionEntry}
-use Rattle.ftl0_job.specs.declared.work.Work.{Work}
 use Rattle.ftl0_job.specs.declared.work.Work.TheVariants as work
-use Rattle.ftl0_job.specs.Upload.{Upload}
-use Rattle.air_attempt.specs.Lists.{Has}
-use Rattle.air_attempt.specs.Party.{Asked, Party}
-use Rattle.air_attempt.specs.Said.{Acknowledges, AsksUpload, Offers, octets_come, octets_taken, said_behind_server}
-use Rattle.air_attempt.specs.Sides.{IsGreeting, ServerSide, said_by_client, said_by_server}
-use Rattle.air_files.specs.Dialogue.{IsDueNow, Serves}
-use Rattle.air_files.specs.Laws.{IsServed}
-use Rattle.air_files.specs.Facts.{IsBegun, IsGrantKept, Receives}
-use Rattle.air_files.specs.UploadDialogue.{GoesOnWith, IsOfferFor, ServesUpload, answered_in, received_items, receives}
-use Rattle.air_files.specs.UploadDialogue.{receiving_said, refused, unasked}
+use Rattle.air_files.specs.UploadDialogue.{refused}
+use Rattle.air_files.proofs.Names.{Ok, Decides-eqb, nat_tests, take_at, All-nil, same_Some, IsFront, Item, PacketValue, ul_ack_resp, ul_error_resp, ul_go_resp, upload_cmd, IsCompleteIn, Command, begin, can_begin, Entry, Store, entry_of, new_entry, partial, Session, State, command, receiving, SessionEntry, Work, Upload, Has, Asked, Party, Acknowledges, AsksUpload, Offers, octets_come, octets_taken, said_behind_server, IsGreeting, ServerSide, said_by_client, said_by_server, IsDueNow, Serves, IsServed, IsBegun, IsGrantKept, Receives, GoesOnWith, IsOfferFor, ServesUpload, answered_in, received_items, receives, receiving_said, unasked}
 use Rattle.air_files.proofs.EntryLemmas.{answered-more, answers-now, items-more, said-more, with_entry}
 use Rattle.air_files.proofs.GrowingLemmas.{begun-first, begun-there}
 use Rattle.air_files.proofs.OwnerLemmas.{next-none, own-next}

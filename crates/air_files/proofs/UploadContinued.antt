@@ -1,28 +1,11 @@
 -- UPLOAD_CMD to a session of an upload: a file that goes on; and each of its rows.
 use Rattle.std.proofs.Common.{◌≡◌, inl, inr, ℕ, ◌≤◌, ◌<◌, ◌^◌, List, [], ◌∷◌, length, refl, ap, sym, ◌∙◌, subst, arith}
 use Rattle.std.proofs.Common.{false, Some}
-use Rattle.std.proofs.lemmas.Option.{same_Some}
-use Rattle.px_base.specs.CallSign.{CallSign}
-use Rattle.px_base.specs.Octets.{IsFront}
-use Rattle.ftl0_packets.specs.Layout.{ul_go_resp}
-use Rattle.file_store.specs.IsStore.{FitsLength}
-use Rattle.file_store.specs.Store.{Entry, Holding, Store, entry_of, octets_of, partial}
-use Rattle.file_store.proofs.Offered.{found-fits}
-use Rattle.ftl0_session.specs.Laws.{UploadsLaw}
-use Rattle.ftl0_session.specs.Run.{Session}
-use Rattle.ftl0_session.specs.Table.{Row, by_upload, command, receiving, session_row}
+use Rattle.ftl0_session.specs.Table.{Row}
 use Rattle.ftl0_session.specs.Uploads.Session as upload
-use Rattle.ftl0_session.specs.Uploads.Session.{resumed_row}
 use Rattle.ftl0_server.specs.Entries as session
-use Rattle.ftl0_server.specs.Entries.{SessionEntry}
 use Rattle.ftl0_job.specs.declared.work.Work.TheVariants as work
-use Rattle.ftl0_job.specs.Upload.{Upload}
-use Rattle.air_attempt.specs.Party.{Asked, Party}
-use Rattle.air_attempt.specs.Sides.{ServerSide}
-use Rattle.air_files.specs.Facts.{GoesOnWithTask, HasNumber, Receives}
-use Rattle.air_files.specs.Kept.{IsFileAt}
-use Rattle.air_files.specs.Laws.{IsServed}
-use Rattle.air_files.specs.UploadDialogue.{unasked}
+use Rattle.air_files.proofs.Names.{same_Some, CallSign, IsFront, ul_go_resp, FitsLength, Entry, Holding, Store, entry_of, octets_of, partial, found-fits, UploadsLaw, Session, by_upload, command, receiving, session_row, resumed_row, SessionEntry, Upload, Asked, Party, ServerSide, GoesOnWithTask, HasNumber, Receives, IsFileAt, IsServed, unasked}
 use Rattle.air_files.proofs.EntryLemmas.{with_entry}
 use Rattle.air_files.proofs.SideLemmas.{EntryDoes, RowDoes, done, gone_attempt, idle-does, idle_row, newest-client}
 use Rattle.air_files.proofs.SideLemmas.{side-kept, side-new}

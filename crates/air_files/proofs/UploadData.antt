@@ -2,37 +2,12 @@
 use Rattle.std.proofs.Common.{◌≡◌, inl, inr, ℕ, suc, zero, ◌+◌, ◌-◌, ◌*◌, ◌/◌, ◌≤◌, ◌<◌, min, List, [], ◌∷◌, ◌++◌}
 use Rattle.std.proofs.Common.{length, take, drop, refl, ap, sym, ◌∙◌, subst, arith, append-nil, append_assoc}
 use Rattle.std.proofs.Common.{length-append, length-take, length-drop, take-add, take-append-drop, Bool, false}
-use Rattle.std.specs.Prelude.{Ok}
-use Rattle.std.specs.List.{AllByRecursion}
-use Rattle.std.proofs.lemmas.List.{drop_at, length-take-le, map-append}
-use Rattle.std.proofs.lemmas.List.Elements.{All-drop, All-take}
-use Rattle.std.proofs.lemmas.Option.{same_Some}
-use Rattle.px_base.specs.Octets.{IsFront, IsOctets}
-use Rattle.ftl0_packets.specs.Layout.{Item, data_part, ul_go_resp, upload_cmd}
-use Rattle.file_entries.specs.Follows.{AreOf, BringsOctets}
-use Rattle.file_store.specs.Command.{DropsNothing, after_all, grows, unfilled_block, whole_grows}
-use Rattle.file_store.specs.OnDisk.{after_first}
-use Rattle.file_store.specs.Store.{Entry, Store, entry_of, partial}
-use Rattle.file_store.proofs.Offered.{grows-after}
-use Rattle.ftl0_session.specs.Laws.{UploadsLaw}
-use Rattle.ftl0_session.specs.Run.{Session}
-use Rattle.ftl0_session.specs.Table.{Row, by_upload, receiving, session_row}
+use Rattle.file_store.specs.Command.{after_all}
+use Rattle.ftl0_session.specs.Table.{Row}
 use Rattle.ftl0_session.specs.Uploads.Session as upload
 use Rattle.ftl0_server.specs.Entries as session
-use Rattle.ftl0_server.specs.Entries.{SessionEntry}
-use Rattle.server_laws.specs.Rows.{CallerLaw}
-use Rattle.ftl0_job.specs.declared.work.Work.{Work}
 use Rattle.ftl0_job.specs.declared.work.Work.TheVariants as work
-use Rattle.ftl0_job.specs.Upload.{Upload}
-use Rattle.air_attempt.specs.Party.{Asked, Party}
-use Rattle.air_attempt.specs.Said.{octets_come, said_behind_server}
-use Rattle.air_attempt.specs.Sides.{ServerSide, said_by_client}
-use Rattle.air_files.specs.Dialogue.{Serves}
-use Rattle.air_files.specs.Facts.{HasNumber, Receives}
-use Rattle.air_files.specs.Kept.{IsFileAt}
-use Rattle.air_files.specs.Laws.{IsServed}
-use Rattle.air_files.specs.UploadDialogue.{AnsweredFirst, GoesOnWith, IsOfferedBy, ServesUpload, received_items}
-use Rattle.air_files.specs.UploadDialogue.{receives, receiving_said}
+use Rattle.air_files.proofs.Names.{Ok, AllByRecursion, drop_at, length-take-le, map-append, All-drop, All-take, same_Some, IsFront, IsOctets, Item, data_part, ul_go_resp, upload_cmd, AreOf, BringsOctets, DropsNothing, grows, unfilled_block, whole_grows, after_first, Entry, Store, entry_of, partial, grows-after, UploadsLaw, Session, by_upload, receiving, session_row, SessionEntry, CallerLaw, Work, Upload, Asked, Party, octets_come, said_behind_server, ServerSide, said_by_client, Serves, HasNumber, Receives, IsFileAt, IsServed, AnsweredFirst, GoesOnWith, IsOfferedBy, ServesUpload, received_items, receives, receiving_said}
 use Rattle.air_files.proofs.EntryLemmas.{answered-more, answers-still, said-more, says-still, with_entry}
 use Rattle.air_files.proofs.GrowingLemmas.{front-entry, front-others, grows-allowed-here, grows-first, with_front}
 use Rattle.air_files.proofs.OwnerLemmas.{one-file, own-number}

@@ -1,43 +1,16 @@
 -- DATA_END to a session that receives a file.
 use Rattle.std.proofs.Common.{◌≡◌, ◌≢◌, ◌⊎◌, inl, inr, ℕ, ◌+◌, List, [], ◌∷◌, ◌++◌, length, take, refl, ap, ap₂, sym}
 use Rattle.std.proofs.Common.{◌∙◌, subst, arith, length-append, Bool, false, None}
-use Rattle.std.specs.Prelude.{IsTrue, Ok}
-use Rattle.std.specs.List.{AllByRecursion}
-use Rattle.std.proofs.lemmas.List.{take_all}
-use Rattle.std.proofs.lemmas.Option.{same_Some}
-use Rattle.px_base.specs.CallSign.{CallSign, IsCall}
-use Rattle.px_base.specs.Octets.{IsOctets}
-use Rattle.ftl0_packets.specs.Layout.{Item, PacketValue, data_end, ul_ack_resp, ul_go_resp, upload_cmd}
-use Rattle.pfh_items.specs.Faults.{fault_code}
 use Rattle.pfh_items.specs.Stamp.{stamped}
-use Rattle.file_entries.specs.Follows.{AreOf, BringsOctets}
-use Rattle.file_store.specs.Command.{DropsNothing, after_all}
-use Rattle.file_store.specs.Info.{IsCompleteIn, is_complete}
-use Rattle.file_store.specs.OnDisk.{after_first}
-use Rattle.file_store.specs.Store.{Entry, Holding, Store, complete, entry_of, partial}
-use Rattle.file_store.proofs.Offered.{found-number}
-use Rattle.ftl0_session.specs.Laws.{Acknowledges, AcknowledgedLaw, UploadsLaw}
-use Rattle.ftl0_session.specs.Run.{Session}
-use Rattle.ftl0_session.specs.Table.{Row, by_upload, command, receiving, session_row}
+use Rattle.file_store.specs.Command.{after_all}
+use Rattle.ftl0_session.specs.Laws.{Acknowledges}
+use Rattle.ftl0_session.specs.Table.{Row}
 use Rattle.ftl0_session.specs.Uploads.Laws.{kept}
 use Rattle.ftl0_session.specs.Uploads.Session as upload
 use Rattle.ftl0_server.specs.Entries as session
-use Rattle.ftl0_server.specs.Entries.{SessionEntry}
-use Rattle.server_laws.specs.Rows.{CallerLaw}
-use Rattle.ftl0_job.specs.declared.work.Work.{Work}
 use Rattle.ftl0_job.specs.declared.work.Work.TheVariants as work
-use Rattle.ftl0_job.specs.Upload.{Upload}
-use Rattle.air_attempt.specs.Lists.{Has}
-use Rattle.air_attempt.specs.Party.{Asked, Party}
-use Rattle.air_attempt.specs.Said.{Offers}
-use Rattle.air_attempt.specs.Sides.{ServerSide, said_by_server}
-use Rattle.air_files.specs.Dialogue.{Serves}
-use Rattle.air_files.specs.Facts.{HasNumber}
-use Rattle.air_files.specs.Kept.{IsFileAt, IsKept}
-use Rattle.air_files.specs.Laws.{IsServed}
-use Rattle.air_files.specs.UploadDialogue.{AnsweredFirst, IsOfferedBy, ServesUpload, ended, received_items, receives}
-use Rattle.air_files.specs.UploadDialogue.{receiving_said}
-use Rattle.air_files.specs.Uploads.{IsGoodFile}
+use Rattle.air_files.specs.UploadDialogue.{ended}
+use Rattle.air_files.proofs.Names.{IsTrue, Ok, AllByRecursion, take_all, same_Some, CallSign, IsCall, IsOctets, Item, PacketValue, data_end, ul_ack_resp, ul_go_resp, upload_cmd, fault_code, AreOf, BringsOctets, DropsNothing, IsCompleteIn, is_complete, after_first, Entry, Holding, Store, complete, entry_of, partial, found-number, AcknowledgedLaw, UploadsLaw, Session, by_upload, command, receiving, session_row, SessionEntry, CallerLaw, Work, Upload, Has, Asked, Party, Offers, ServerSide, said_by_server, Serves, HasNumber, IsFileAt, IsKept, IsServed, AnsweredFirst, IsOfferedBy, ServesUpload, received_items, receives, receiving_said, IsGoodFile}
 use Rattle.air_files.proofs.EntryLemmas.{answered-more, answers-still, said-more, says-cases, with_entry}
 use Rattle.air_files.proofs.GrowingLemmas.{ended-first, ended-store, ending-allowed, ending_commands, front-entry}
 use Rattle.air_files.proofs.GrowingLemmas.{front-others, sealed-others, sealed_store, with_front}

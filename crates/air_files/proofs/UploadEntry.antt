@@ -1,23 +1,11 @@
 -- Whatever comes next to a session of an upload, its entry does what it has to.
 use Rattle.std.proofs.Common.{◌≡◌, inl, inr, ℕ, suc, zero, ◌<◌, ◌^◌, List, [], ◌∷◌, ◌++◌, length, drop, refl, ap, sym}
 use Rattle.std.proofs.Common.{◌∙◌, subst, false, None}
-use Rattle.std.specs.Prelude.{Ok}
-use Rattle.std.specs.List.{AllByRecursion}
-use Rattle.ftl0_packets.specs.Layout.{Fits, Item, PacketValue, data_end, data_part, upload_cmd}
-use Rattle.ftl0_session.specs.Laws.{AcknowledgedLaw, UploadsLaw}
-use Rattle.ftl0_session.specs.Run.{Session}
-use Rattle.ftl0_session.specs.Table.{State, next_due, receiving, session_row}
 use Rattle.ftl0_server.specs.Entries as session
-use Rattle.ftl0_server.specs.Entries.{SessionEntry, row_of}
-use Rattle.server_laws.specs.Rows.{CallerLaw}
+use Rattle.ftl0_server.specs.Entries.{row_of}
 use Rattle.ftl0_job.specs.declared.work.Work.TheVariants as work
-use Rattle.ftl0_job.specs.Upload.{Upload}
-use Rattle.air_attempt.specs.Laws.{ServerTookFront}
-use Rattle.air_attempt.specs.Party.{Asked, Party}
-use Rattle.air_attempt.specs.Sides.{said_by_client}
-use Rattle.air_files.specs.Facts.{HasNumber}
-use Rattle.air_files.specs.Laws.{IsServed}
-use Rattle.air_files.specs.UploadDialogue.{GoesOnWith, IsReceivingState, Receiving, ended, receives, refused, unasked}
+use Rattle.air_files.specs.UploadDialogue.{ended, refused}
+use Rattle.air_files.proofs.Names.{Ok, AllByRecursion, Fits, Item, PacketValue, data_end, data_part, upload_cmd, AcknowledgedLaw, UploadsLaw, Session, State, next_due, receiving, session_row, SessionEntry, CallerLaw, Upload, ServerTookFront, Asked, Party, said_by_client, HasNumber, IsServed, GoesOnWith, IsReceivingState, Receiving, receives, unasked}
 use Rattle.air_files.proofs.SideLemmas.{EntryDoes}
 use Rattle.air_files.proofs.UploadContinued.{asked-does}
 use Rattle.air_files.proofs.UploadData as data_lemmas

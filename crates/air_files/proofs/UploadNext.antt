@@ -1,22 +1,12 @@
 -- Which packet comes next to a session of an upload, and what the session has offered.
 use Rattle.std.proofs.Common.{◌≡◌, ◌⊎◌, inl, inr, ℕ, suc, ◌+◌, List, [], ◌∷◌, ◌++◌, length, map, drop, refl, ap, sym}
 use Rattle.std.proofs.Common.{◌∙◌, subst, append_assoc}
-use Rattle.std.specs.Prelude.{Ok, ⊤}
-use Rattle.std.specs.List.{AllByRecursion}
-use Rattle.ftl0_packets.specs.Layout.{Item, PacketValue, data_end, data_part, ul_go_resp, upload_cmd}
 use Rattle.ftl0_server.specs.Entries as session
-use Rattle.ftl0_server.specs.Entries.{SessionEntry}
 use Rattle.ftl0_client.specs.Entries as job
-use Rattle.ftl0_client.specs.Entries.{JobEntry}
-use Rattle.air_attempt.specs.Attempt.{Attempt}
-use Rattle.air_attempt.specs.Laws.{ClientTookFront}
-use Rattle.air_attempt.specs.Lists.{Has, OneIs}
-use Rattle.air_attempt.specs.Said.{IsTaken, Took}
-use Rattle.air_attempt.specs.Sides.{ClientSide, IsGreeting, ServerSide, said_by_server}
-use Rattle.air_attempt.proofs.Offered.{one-left, one-right}
-use Rattle.air_files.specs.UploadDialogue.{GoesOnWith, IsOfferedBy, IsSendingFile, IsWord, Receiving, Sending}
-use Rattle.air_files.specs.UploadDialogue.{answered_in, asked, data_items, ended, received_items, receives}
-use Rattle.air_files.specs.UploadDialogue.{receiving_said, refused, sending_said, sends, silent, unasked}
+use Rattle.air_files.specs.UploadDialogue.{IsWord, Sending}
+use Rattle.air_files.specs.UploadDialogue.{asked, ended}
+use Rattle.air_files.specs.UploadDialogue.{refused, sending_said, sends, silent}
+use Rattle.air_files.proofs.Names.{Ok, ⊤, AllByRecursion, Item, PacketValue, data_end, data_part, ul_go_resp, upload_cmd, SessionEntry, JobEntry, Attempt, ClientTookFront, Has, OneIs, IsTaken, Took, ClientSide, IsGreeting, ServerSide, said_by_server, one-left, one-right, GoesOnWith, IsOfferedBy, IsSendingFile, Receiving, answered_in, data_items, received_items, receives, receiving_said, unasked}
 use Rattle.air_files.proofs.JobTook.{IsOffer, has-ok}
 
 -- ---- what was taken

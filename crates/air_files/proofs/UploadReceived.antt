@@ -1,27 +1,9 @@
 -- A file that a session receives, by the upload of its attempt, and the packet that comes next of it.
 use Rattle.std.proofs.Common.{◌≡◌, ℕ, suc, ◌+◌, ◌≤◌, ◌<◌, List, [], ◌∷◌, ◌++◌, length, take, drop, refl, ap, sym, ◌∙◌}
 use Rattle.std.proofs.Common.{subst, arith, append-nil, length-append, slice_get, Bool, Option, None, Some}
-use Rattle.std.specs.List.{AllByRecursion}
-use Rattle.std.specs.Option.{option_and_then, option_map}
-use Rattle.std.proofs.lemmas.List.Concat.{flat_map-append}
-use Rattle.px_base.specs.CallSign.{CallSign}
-use Rattle.ftl0_packets.specs.Layout.{Item}
-use Rattle.file_store.specs.Store.{Entry, Store, entry_of, partial}
-use Rattle.ftl0_session.specs.Run.{Session}
-use Rattle.ftl0_session.specs.Table.{State, receiving}
 use Rattle.ftl0_server.specs.Entries as session
-use Rattle.ftl0_server.specs.Entries.{SessionEntry}
 use Rattle.ftl0_job.specs.declared.work.Work.TheVariants as work
-use Rattle.ftl0_job.specs.Upload.{Upload, new_upload}
-use Rattle.air_attempt.specs.Attempt.{Attempt}
-use Rattle.air_attempt.specs.Party.{Asked, IsFileOf, Party, upload_of}
-use Rattle.air_attempt.specs.Said.{AsksUpload, Offers, octets_come, octets_of_item, octets_taken, said_behind_server}
-use Rattle.air_attempt.specs.Sides.{ServerSide, said_by_client}
-use Rattle.air_attempt.proofs.Offered.{each-at, has-at}
-use Rattle.air_files.specs.Facts.{Receives}
-use Rattle.air_files.specs.Laws.{IsServed}
-use Rattle.air_files.specs.UploadDialogue.{GoesOnWith, IsReceivingState, receives}
-use Rattle.air_files.specs.Uploads.{IsGoodFile}
+use Rattle.air_files.proofs.Names.{AllByRecursion, option_and_then, option_map, flat_map-append, CallSign, Item, Entry, Store, entry_of, partial, Session, State, receiving, SessionEntry, Upload, new_upload, Attempt, Asked, IsFileOf, Party, upload_of, AsksUpload, Offers, octets_come, octets_of_item, octets_taken, said_behind_server, ServerSide, said_by_client, each-at, has-at, Receives, IsServed, GoesOnWith, IsReceivingState, receives, IsGoodFile}
 use Rattle.air_files.proofs.ApartLemmas.{ReceiveFact}
 use Rattle.air_files.proofs.EntryLemmas.{items-more, with_entry}
 use Rattle.air_files.proofs.SideLemmas.{newest-side}

@@ -1,22 +1,12 @@
 -- The rows of an upload's packets.
 use Rattle.std.proofs.Common.{◌≡◌, ◌⊎◌, inl, inr, ℕ, ◌+◌, ◌≤◌, ◌<◌, ◌==◌, Bool, true, false, not, List, ◌++◌, length}
 use Rattle.std.proofs.Common.{refl, ap, sym, ◌∙◌, subst, arith, length-append, Option, None, Some}
-use Rattle.std.specs.Prelude.{Ok, nat_le, if◌then◌else◌, IsTrue}
-use Rattle.std.proofs.lemmas.Bool.Decides.{Decides-eqb, nat_tests}
-use Rattle.px_base.specs.CallSign.{CallSign}
-use Rattle.ftl0_packets.specs.Layout.{data_end, data_part, upload_cmd}
-use Rattle.pfh_items.specs.Faults.{fault_code}
-use Rattle.file_store.specs.Command.{can_begin, has_room, passes}
-use Rattle.file_store.specs.Info.{IsCompleteIn, is_complete}
-use Rattle.file_store.specs.Store.{Entry, Holding, Store, complete, entry_of, octets_at, octets_of, partial}
-use Rattle.ftl0_session.specs.Laws.{UploadsLaw}
-use Rattle.ftl0_session.specs.Lists.Lists.{CallerList}
-use Rattle.ftl0_session.specs.Table.{by_upload, command, receiving, session_row}
+use Rattle.std.specs.Prelude.{if◌then◌else◌}
 use Rattle.ftl0_session.specs.Uploads.Session as upload
-use Rattle.ftl0_session.specs.Uploads.Session.{begin_row, continue_row, data_row, end_row, granted_row, is_all}
-use Rattle.ftl0_session.specs.Uploads.Session.{is_same_call, is_theirs, refused_row, resumed_row, taken_row, upload_row}
+use Rattle.ftl0_session.specs.Uploads.Session.{is_same_call, refused_row, upload_row}
 use Rattle.ftl0_session.specs.Uploads.Session.{whole_row}
 use Rattle.ftl0_session.proofs.uploads.UploadRows.{theirs-decides}
+use Rattle.air_files.proofs.Names.{Ok, nat_le, IsTrue, Decides-eqb, nat_tests, CallSign, data_end, data_part, upload_cmd, fault_code, can_begin, has_room, passes, IsCompleteIn, is_complete, Entry, Holding, Store, complete, entry_of, octets_at, octets_of, partial, UploadsLaw, CallerList, by_upload, command, receiving, session_row, begin_row, continue_row, data_row, end_row, granted_row, is_all, is_theirs, resumed_row, taken_row}
 
 -- ---- the rows of the whole table
 

@@ -1,28 +1,12 @@
 -- A session of an upload with the packet that comes next, and whose the file is that it receives.
 use Rattle.std.proofs.Common.{◌≡◌, ℕ, suc, zero, ◌≤◌, List, [], ◌∷◌, ◌++◌, length, map, drop, refl, ap, sym, ◌∙◌, subst}
 use Rattle.std.proofs.Common.{arith, append_assoc}
-use Rattle.std.specs.Prelude.{Ok}
-use Rattle.ftl0_packets.specs.Layout.{Item, PacketValue, ul_go_resp, upload_cmd}
-use Rattle.ftl0_session.specs.Run.{Session}
 use Rattle.ftl0_server.specs.Entries as session
-use Rattle.ftl0_server.specs.Entries.{SessionEntry}
-use Rattle.ftl0_job.specs.declared.work.Work.{Work}
 use Rattle.ftl0_job.specs.declared.work.Work.TheVariants as work
-use Rattle.ftl0_job.specs.JobState.{IsNotBegun}
-use Rattle.ftl0_job.specs.Upload.{Upload}
-use Rattle.air_attempt.specs.Attempt.{Attempt}
-use Rattle.air_attempt.specs.Laws.{ServerTookFront}
-use Rattle.air_attempt.specs.Lists.{Has}
-use Rattle.air_attempt.specs.Party.{Asked, IsFileOf, Party}
-use Rattle.air_attempt.specs.Said.{AsksUpload, Took}
-use Rattle.air_attempt.specs.Sides.{ClientSide, said_by_client}
-use Rattle.air_files.specs.Dialogue.{Says, Serves}
-use Rattle.air_files.specs.Facts.{GoesOnWithTask, HasNumber, NotesGrant}
-use Rattle.air_files.specs.Laws.{IsServed}
-use Rattle.air_files.specs.Tasks.{IsWork}
-use Rattle.air_files.specs.UploadDialogue.{IsOfferFor, IsOfferedBy, IsSendingFile, Receiving, SaysUpload, Sending}
-use Rattle.air_files.specs.UploadDialogue.{ServesUpload, asked, data_items, received_items, receives, sending_said}
-use Rattle.air_files.specs.UploadDialogue.{sends, silent, unasked}
+use Rattle.air_files.specs.UploadDialogue.{Sending}
+use Rattle.air_files.specs.UploadDialogue.{asked, sending_said}
+use Rattle.air_files.specs.UploadDialogue.{sends, silent}
+use Rattle.air_files.proofs.Names.{Ok, Item, PacketValue, ul_go_resp, upload_cmd, Session, SessionEntry, Work, IsNotBegun, Upload, Attempt, ServerTookFront, Has, Asked, IsFileOf, Party, AsksUpload, Took, ClientSide, said_by_client, Says, Serves, GoesOnWithTask, HasNumber, NotesGrant, IsServed, IsWork, IsOfferFor, IsOfferedBy, IsSendingFile, Receiving, SaysUpload, ServesUpload, data_items, received_items, receives, unasked}
 use Rattle.air_files.proofs.EntryLemmas.{items-more}
 use Rattle.air_files.proofs.SideLemmas.{newest-client, newest-side}
 use Rattle.air_files.proofs.UploadNext.{IsNextIn, SaidNext, TookOffered, answered-all, next-in, next-said, offers-in}

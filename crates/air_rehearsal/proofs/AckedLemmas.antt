@@ -1,16 +1,9 @@
 -- Counts over tasks that come one after another.
 use Rattle.std.proofs.Common.{◌≡◌, ℕ, suc, ◌+◌, List, [], ◌∷◌, ◌++◌, map, Some, inl, inr, refl, ap, sym, subst, ◌∙◌, arith}
-use Rattle.std.specs.Prelude.{slice_get, true}
-use Rattle.std.specs.List.{AllByRecursion, flat_map, range_with_len}
 use Rattle.std.proofs.lemmas.List.Concat.{flat_map-cons}
-use Rattle.client_notes.specs.Notes.{task_count}
 use Rattle.air_attempt.specs.Party.{Party}
-use Rattle.air_world.specs.Headline.{HeadlineIn}
-use Rattle.air_world.specs.World.{World}
-use Rattle.air_rehearsal.specs.Counting.{TellsThen, acked_more, kept_more, told}
-use Rattle.air_rehearsal.specs.Ending.{CountsAcked}
-use Rattle.air_rehearsal.specs.Report.{ClientTask, CountOf, IsAcked, IsAckedAndKept, all_tasks, tasks_of}
 use Rattle.air_rehearsal.specs.declared.report.Report.{Report as StoredReport}
+use Rattle.air_rehearsal.proofs.Names.{slice_get, true, AllByRecursion, flat_map, range_with_len, task_count, HeadlineIn, World, TellsThen, acked_more, kept_more, told, CountsAcked, ClientTask, CountOf, IsAcked, IsAckedAndKept, all_tasks, tasks_of}
 
 count-append : {T : Type 0} (P : T → Type 0) (front later : List T) (some more : ℕ) → CountOf P front some
     → CountOf P later more → CountOf P (front ++ later) (some + more)

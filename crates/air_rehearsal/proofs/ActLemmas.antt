@@ -1,26 +1,9 @@
 -- What a client does in an event that isn't cut, and what it is then; and so what it is after any event.
 use Rattle.std.proofs.Common.{◌≡◌, refl, sym, ap, ◌∙◌, subst, Option, None, Some, false}
-use Rattle.std.specs.Prelude.{is_some}
-use Rattle.std.proofs.lemmas.List.{append-nil}
-use Rattle.disk_model.specs.Cuts.{Cuts, LastsSo, cut_state}
-use Rattle.disk_model.specs.declared.disk.Disk.{Ghosts}
-use Rattle.ftl0_client.specs.Client.{ClientEvent, IsSilent}
-use Rattle.ftl0_client.specs.ClientState.{IsClient}
+use Rattle.ftl0_client.specs.Client.{ClientEvent}
 use Rattle.ftl0_client.specs.ClientStep.{happening}
 use Rattle.air_attempt.specs.Party.{Party}
-use Rattle.air_attempt.specs.Transfers.{ClientDid}
-use Rattle.air_world.specs.Events.{ClientPart, ClientTakes, part_with}
-use Rattle.air_world.specs.Lawful.{IsAllowed}
-use Rattle.air_world.specs.Schedule.{Event}
-use Rattle.air_world.specs.Step.{client_started, party_after}
-use Rattle.air_rehearsal.specs.LaneLaws.{ClientLanesLaw}
-use Rattle.air_rehearsal.specs.Lanes.{HasLanes, Lanes, lanes_of}
-use Rattle.air_rehearsal.specs.PartCalls.{ActsPart, BeCut, BeginsPart, KeepsOthers, SaysAll}
-use Rattle.air_rehearsal.specs.TakingPart.{DoesPart, IsPart, IsSeat, PartyGoes, Seat, TakesPart}
-use Rattle.air_rehearsal.specs.Worlds.{IsSteady}
-use Rattle.air_rehearsal.specs.declared.cuts.Cut.{Cut}
-use Rattle.air_rehearsal.specs.declared.part.Part.{Part}
-use Rattle.air_rehearsal.specs.declared.party.Party.{Party as StoredParty}
+use Rattle.air_rehearsal.proofs.Names.{is_some, append-nil, Cuts, LastsSo, cut_state, Ghosts, IsSilent, IsClient, ClientDid, ClientPart, ClientTakes, part_with, IsAllowed, Event, client_started, party_after, ClientLanesLaw, HasLanes, Lanes, lanes_of, ActsPart, BeCut, BeginsPart, KeepsOthers, SaysAll, DoesPart, IsPart, IsSeat, PartyGoes, Seat, TakesPart, IsSteady, Cut, Part, Party as StoredParty}
 use Rattle.air_rehearsal.proofs.CutLemmas.{party_but}
 use Rattle.air_rehearsal.proofs.PartLemmas.{carries_none, silent_noted, steady_on}
 

@@ -1,12 +1,9 @@
 -- What is alike stands for the same: a client's notes always, and the server's store where it has the blocks of a
 -- rehearsal.
-use Rattle.std.specs.Prelude.{◌≡◌, ℕ, ⊤}
+use Rattle.std.specs.Prelude.{◌≡◌}
 use Rattle.std.proofs.Common.{sym, ◌∙◌, subst}
-use Rattle.file_journal.specs.Walk.{state}
-use Rattle.file_store.specs.State.{standing_of}
-use Rattle.air_world.specs.World.{World, store_blocks}
+use Rattle.air_rehearsal.proofs.Names.{ℕ, ⊤, state, standing_of, World, store_blocks, client_at, the_server}
 use Rattle.air_rehearsal.proofs.ImagesThrough.{AlikeStands}
-use Rattle.air_rehearsal.specs.Stations.{client_at, the_server}
 
 -- the world's server has the blocks of a rehearsal
 abbrev pub HasBlocks : World → Type 0

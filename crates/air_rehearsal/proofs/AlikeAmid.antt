@@ -1,19 +1,9 @@
 -- What is alike stands for the same in mid-event too: after the first of the event's commands.
-use Rattle.std.specs.Prelude.{◌≡◌, ℕ, List, ◌∷◌}
+use Rattle.std.specs.Prelude.{◌≡◌, ◌∷◌}
 use Rattle.std.proofs.Common.{inl, inr, sym, ◌∙◌, subst}
-use Rattle.file_journal.specs.Walk.{state}
-use Rattle.file_store.specs.OnDisk.{after_first}
 use Rattle.file_store.specs.Recovery as store_recovery
-use Rattle.file_store.specs.State.{StandsFor as StandsForStore, standing_of}
-use Rattle.file_store.specs.Store.{Store}
-use Rattle.air_world.specs.Cuts.{server_commands}
-use Rattle.air_world.specs.Laws.{StoresLaw}
-use Rattle.air_world.specs.Lawful.{IsAllowed}
-use Rattle.air_world.specs.Schedule.{Event}
-use Rattle.air_world.specs.Sound.{Sound}
-use Rattle.air_world.specs.World.{World, store_blocks}
-use Rattle.air_rehearsal.specs.Rehearsed.{StandsAmid}
-use Rattle.air_rehearsal.specs.Stations.{client_at, the_server}
+use Rattle.file_store.specs.State.{StandsFor as StandsForStore}
+use Rattle.air_rehearsal.proofs.Names.{ℕ, List, state, after_first, standing_of, Store, server_commands, StoresLaw, IsAllowed, Event, Sound, World, store_blocks, StandsAmid, client_at, the_server}
 use Rattle.air_rehearsal.proofs.Alike.{HasBlocks, client_alike, server_alike}
 use Rattle.air_rehearsal.proofs.StopsHalfway.{AlikeHas}
 

@@ -1,28 +1,10 @@
 -- What is so of the client of a number, in the world that the stations play.
 use Rattle.std.proofs.Common.{◌≡◌, ℕ, zero, suc, List, [], Bool, true, false, Option, None, Some}
 use Rattle.std.proofs.Common.{length, refl, sym, ap, subst, ◌∙◌}
-use Rattle.std.specs.Prelude.{◌↔◌, IsTrue, is_some}
+use Rattle.std.specs.Prelude.{◌↔◌}
 use Rattle.std.specs.List.{slice_get}
-use Rattle.std.proofs.lemmas.Bool.{both_ways}
-use Rattle.std.proofs.lemmas.Option.{none-some, same_Some}
-use Rattle.ax25_link.specs.Air.{IsLawful, Transmission}
-use Rattle.ax25_link.specs.Window.{Window, window_of}
-use Rattle.client_notes.specs.Notes.{Lists}
-use Rattle.air_attempt.proofs.Offered.{all-at}
-use Rattle.air_attempt.specs.Attempt.{Attempt}
-use Rattle.air_attempt.specs.Lists.{Placed}
-use Rattle.air_attempt.specs.Party.{Party, newest}
-use Rattle.air_world.specs.Lawful.{HasParty, MayCome, last_unfinished}
-use Rattle.air_world.specs.Sound.{Sound}
-use Rattle.air_world.specs.World.{PartyAt, World}
-use Rattle.air_rehearsal.specs.LaneCalls.{MayDeliver}
-use Rattle.air_rehearsal.specs.Lanes.{Lanes, lanes_by, lanes_of}
-use Rattle.air_rehearsal.specs.Numbers.{numbered}
-use Rattle.air_rehearsal.specs.PartyCalls.{IsLastGoing}
-use Rattle.air_rehearsal.specs.TakingPart.{IsSeat}
-use Rattle.air_rehearsal.specs.Worlds.{PlaysStations}
-use Rattle.air_rehearsal.specs.declared.party.Party.{Party as StoredParty}
-use Rattle.air_rehearsal.specs.declared.stations.Stations.{Stations}
+use Rattle.air_attempt.specs.Party.{Party}
+use Rattle.air_rehearsal.proofs.Names.{IsTrue, is_some, both_ways, none-some, same_Some, IsLawful, Transmission, Window, window_of, Lists, all-at, Attempt, Placed, newest, HasParty, MayCome, last_unfinished, Sound, PartyAt, World, MayDeliver, Lanes, lanes_by, lanes_of, numbered, IsLastGoing, IsSeat, PlaysStations, Party as StoredParty, Stations}
 use Rattle.air_rehearsal.proofs.PartiesLemmas.{seat-of, stored-of}
 
 -- ---- transmissions by their numbers

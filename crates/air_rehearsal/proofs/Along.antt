@@ -1,23 +1,8 @@
 -- A rehearsal along the events of a schedule.
-use Rattle.std.specs.Prelude.{◌≡◌, ℕ, zero, suc, ◌+◌, ◌<◌, ◌≤◌, List, [], ◌∷◌, ◌++◌, length, take, drop}
-use Rattle.std.specs.Prelude.{slice_get, Some, refl}
-use Rattle.std.specs.List.{AllByRecursion}
+use Rattle.std.specs.Prelude.{◌≡◌, ◌+◌, ◌<◌, ◌≤◌, ◌∷◌, ◌++◌}
 use Rattle.std.proofs.Common.{inr, sym, ap, ◌∙◌, subst, arith}
-use Rattle.std.proofs.lemmas.List.{append-nil, length-take-le, take_all}
-use Rattle.std.proofs.lemmas.Option.{same_Some, slice_get_within}
-use Rattle.disk_model.specs.Cuts.{AreFresh, Cuts, LastsSo, cut_state}
-use Rattle.disk_model.specs.declared.disk.Disk.{Ghosts}
-use Rattle.air_world.specs.Laws.{StoresLaw}
-use Rattle.air_world.specs.Lawful.{IsAllowed}
-use Rattle.air_world.specs.Schedule.{Event, IsInRange, IsSchedule, Schedule}
-use Rattle.air_world.specs.World.{World, first_world}
-use Rattle.air_rehearsal.specs.Counting.{EndsSo}
-use Rattle.air_rehearsal.specs.Halfway.{StopsEvent, TriesToStart}
-use Rattle.air_rehearsal.specs.Playing.{Bench, PlaysEvent}
-use Rattle.air_rehearsal.specs.Rehearsed.{EndsHalf, IsUnlawful, Rehearsed, WantsMemory, until}
-use Rattle.air_rehearsal.specs.Report.{last_world}
-use Rattle.air_rehearsal.specs.Stations.{the_server}
 use Rattle.air_rehearsal.specs.declared.report.Report.{Report as StoredReport}
+use Rattle.air_rehearsal.proofs.Names.{ℕ, zero, suc, List, [], length, take, drop, slice_get, Some, refl, AllByRecursion, append-nil, length-take-le, take_all, same_Some, slice_get_within, AreFresh, Cuts, LastsSo, cut_state, Ghosts, StoresLaw, IsAllowed, Event, IsInRange, IsSchedule, Schedule, World, first_world, EndsSo, StopsEvent, TriesToStart, Bench, PlaysEvent, EndsHalf, IsUnlawful, Rehearsed, WantsMemory, until, last_world, the_server}
 use Rattle.air_rehearsal.proofs.Finished.{bench_played, finished, refused}
 use Rattle.air_rehearsal.proofs.HalfwayPlay.{end_ends, event_ends}
 use Rattle.air_rehearsal.proofs.WholePlay.{PlayedSome, stepped}

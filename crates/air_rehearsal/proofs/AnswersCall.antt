@@ -1,33 +1,15 @@
 -- A SABM that a session answers is answered by UA: it is the first frame that the end of its link sends.
 use Rattle.std.proofs.Common.{◌≡◌, ℕ, List, [], ◌∷◌, Bool, true, false, Option, None, Some, refl, sym, ap, subst, ◌∙◌}
 use Rattle.std.specs.Prelude.{◌||◌, if◌then◌else◌}
-use Rattle.std.proofs.lemmas.Option.{same_Some}
-use Rattle.ax25_frames.specs.FrameText.{FrameValue}
-use Rattle.ax25_frames.specs.declared.control.Control.{Control}
-use Rattle.ax25_frames.specs.declared.control.Control.TheVariants.{I, Rr, Rnr, Rej, Sabm, Disc, Dm, Ua, Frmr, Ui}
 use Rattle.ax25_link.specs.declared.state.Heard.TheVariants.{Reopened}
-use Rattle.ax25_link.specs.declared.state.LinkState.{LinkState}
-use Rattle.ax25_link.specs.declared.state.LinkState.TheVariants.{Up}
-use Rattle.ax25_link.specs.Ends.{LinkEnd, accept, answering_end, free_octets}
-use Rattle.ax25_link.specs.Rows.{Outcome, is_call, outcome, passed_over, row, row_of_state, up_row}
-use Rattle.ax25_link.specs.Sending.{Drains, Sending, sending_after, sends_reply}
-use Rattle.ax25_link.specs.Window.{Window}
+use Rattle.ax25_link.specs.Rows.{Outcome}
 use Rattle.packet_link.proofs.Queuing.{filling-keeps}
-use Rattle.node.specs.Events.{hears}
 use Rattle.file_store.specs.Command.{after_all}
-use Rattle.file_store.specs.Store.{Store}
 use Rattle.ftl0_session.specs.Lists.Lists.{CallerList, has_left}
 use Rattle.ftl0_session.specs.Table.{command, due_at}
-use Rattle.ftl0_server.specs.Connection.Connected.{Connected, caller_of, greeted}
-use Rattle.ftl0_server.specs.Connection.Hearing.{Happened, hearing, parts_as, progressed, rest_as}
 use Rattle.ftl0_server.specs.Connection.Taking.{Progress, after_due, queued, queuing, resting}
-use Rattle.ftl0_server.specs.Server.{Server}
-use Rattle.ftl0_server.specs.ServerStep.{ServerStep, Stepped}
-use Rattle.ftl0_server.specs.Slots.{Slot, all_freed, first_empty, left_by, place_of}
-use Rattle.server_laws.specs.Places.{SlotDrains, StepLaw}
-use Rattle.air_attempt.specs.Laws.{IsSeatedIn}
-use Rattle.air_attempt.proofs.Offered.{place-of-is}
-use Rattle.air_rehearsal.specs.Lanes.{is_ua}
+use Rattle.ftl0_server.specs.Slots.{place_of}
+use Rattle.air_rehearsal.proofs.Names.{same_Some, FrameValue, Control, I, Rr, Rnr, Rej, Sabm, Disc, Dm, Ua, Frmr, Ui, LinkState, Up, LinkEnd, accept, answering_end, free_octets, is_call, outcome, passed_over, row, row_of_state, up_row, Drains, Sending, sending_after, sends_reply, Window, hears, Store, Connected, caller_of, greeted, Happened, hearing, parts_as, progressed, rest_as, Server, ServerStep, Stepped, Slot, all_freed, first_empty, left_by, SlotDrains, StepLaw, IsSeatedIn, place-of-is, is_ua}
 use Rattle.air_rehearsal.proofs.SentLanes.{has_ua}
 
 -- ---- the end that answers

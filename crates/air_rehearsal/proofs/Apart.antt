@@ -1,32 +1,8 @@
 -- A client that is broken off, and cuts that are to come.
-use Rattle.std.specs.Prelude.{◌≡◌, ℕ, zero, suc, ◌≤◌, List, [], ◌∷◌, slice_get, slice_set, true}
-use Rattle.std.specs.Prelude.{Some, IfSome, refl}
+use Rattle.std.specs.Prelude.{◌≡◌, ◌≤◌, ◌∷◌}
 use Rattle.std.proofs.Common.{sym, ap, ◌∙◌, subst, arith}
-use Rattle.std.proofs.lemmas.Option.{same_Some}
-use Rattle.disk_model.specs.Cuts.{Cuts}
-use Rattle.disk_model.specs.declared.disk.Disk.{Ghosts}
-use Rattle.file_journal.proofs.Offered.{told_weaker}
-use Rattle.file_journal.specs.Calls.{images_now}
-use Rattle.ftl0_server.specs.ServerState.{ServerState}
 use Rattle.air_attempt.specs.Party.{Party}
-use Rattle.air_world.specs.Cuts.{WorldStep, broken}
-use Rattle.air_world.specs.Laws.{SoundLaw}
-use Rattle.air_world.specs.Lawful.{IsAllowed}
-use Rattle.air_world.specs.Schedule.{break_client, cut_client, cut_server}
-use Rattle.air_world.specs.World.{PartyAt, World, counted, with_party}
-use Rattle.air_rehearsal.specs.Chain.{DiskStep, Stage, StepBy}
-use Rattle.air_rehearsal.specs.Counting.{Tells}
-use Rattle.air_rehearsal.specs.Playing.{Bench, GoesOn, IsBench, IsStage, bench_of, counts_with}
-use Rattle.air_rehearsal.specs.Report.{Report}
-use Rattle.air_rehearsal.specs.Seats.{BrokeOff, ChangesAt, Clients, IsSeated, with_server}
-use Rattle.air_rehearsal.specs.ServerEvents.{waiting_of}
-use Rattle.air_rehearsal.specs.Standing.{StandsNow}
-use Rattle.air_rehearsal.specs.Stations.{Role, Station, breaks_off, client_at, the_server}
-use Rattle.air_rehearsal.specs.Stations.{waiting_after, will_be_cut}
-use Rattle.air_rehearsal.specs.Worlds.{PlaysParty, asked_from}
-use Rattle.air_rehearsal.specs.declared.cuts.Cut.{Cut}
-use Rattle.air_rehearsal.specs.declared.party.Party.{Party as StoredParty}
-use Rattle.air_rehearsal.specs.declared.stations.Stations.{Stations}
+use Rattle.air_rehearsal.proofs.Names.{ℕ, zero, suc, List, [], slice_get, slice_set, true, Some, IfSome, refl, same_Some, Cuts, Ghosts, told_weaker, images_now, ServerState, WorldStep, broken, SoundLaw, IsAllowed, break_client, cut_client, cut_server, PartyAt, World, counted, with_party, DiskStep, Stage, StepBy, Tells, Bench, GoesOn, IsBench, IsStage, bench_of, counts_with, Report, BrokeOff, ChangesAt, Clients, IsSeated, with_server, waiting_of, StandsNow, Role, Station, breaks_off, client_at, the_server, waiting_after, will_be_cut, PlaysParty, asked_from, Cut, Party as StoredParty, Stations}
 use Rattle.air_rehearsal.proofs.ClientFacts.{IsClients, for_other, for_own}
 use Rattle.air_rehearsal.proofs.ClientGoes.{goes_client, set_there}
 use Rattle.air_rehearsal.proofs.ServerGoes.{stands_still}

@@ -1,11 +1,7 @@
 -- The lanes of an attempt, once a frame was sent in it.
 use Rattle.std.proofs.Common.{◌≡◌, [], ◌∷◌, ◌++◌, Bool, ◌||◌, cond, true, false, subst, sym, ap, ◌∙◌}
-use Rattle.ax25_frames.specs.FrameText.{FrameValue}
-use Rattle.ax25_link.specs.Air.{fresh}
-use Rattle.ax25_link.specs.Rows.{is_call}
-use Rattle.air_rehearsal.specs.Lanes.{HasLanes, IsLane, Lanes, beginning, is_ua, replying, sending}
 use Rattle.air_rehearsal.specs.declared.attempt.Attempt.{Attempt as StoredAttempt}
-use Rattle.air_rehearsal.specs.declared.lane.Lane.{Lane}
+use Rattle.air_rehearsal.proofs.Names.{FrameValue, fresh, is_call, HasLanes, IsLane, Lanes, beginning, is_ua, replying, sending, Lane}
 
 -- the lanes once an attempt has begun, if one has
 abbrev starting : Bool → Lanes → Lanes

@@ -1,11 +1,8 @@
 -- The clients of a rehearsal and those of the world that they play, one by one.
-use Rattle.std.specs.Prelude.{◌≡◌, ℕ, zero, suc, List, [], ◌∷◌, length, slice_get, slice_set, Some, refl}
+use Rattle.std.specs.Prelude.{◌≡◌, ◌∷◌}
 use Rattle.std.proofs.Common.{sym, ap, ◌∙◌}
-use Rattle.std.proofs.lemmas.Option.{same_Some}
 use Rattle.air_attempt.specs.Party.{Party}
-use Rattle.air_rehearsal.specs.Ready.{KeepParties, KeepsAllButLanes}
-use Rattle.air_rehearsal.specs.Worlds.{PlayParties, PlaysParty}
-use Rattle.air_rehearsal.specs.declared.party.Party.{Party as StoredParty}
+use Rattle.air_rehearsal.proofs.Names.{ℕ, zero, suc, List, [], length, slice_get, slice_set, Some, refl, same_Some, KeepParties, KeepsAllButLanes, PlayParties, PlaysParty, Party as StoredParty}
 use Rattle.air_rehearsal.proofs.PairLemmas.{pair-left, pair-right, pair-set}
 
 -- the client of the world that the one at this place plays

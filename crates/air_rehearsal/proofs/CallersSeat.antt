@@ -1,16 +1,8 @@
 -- The connection of a caller, and the places of a server: where a place has one it is found.
 use Rattle.std.proofs.Common.{◌≡◌, ℕ, zero, suc, List, [], ◌∷◌, Bool, true, Option, None, Some, refl, sym, ap, ◌∙◌}
-use Rattle.std.specs.Prelude.{cond, find, if◌then◌else◌, is_some, slice_get}
-use Rattle.std.specs.Option.{option_and_then, option_map}
-use Rattle.std.proofs.lemmas.Option.{same_Some, slice_get-map}
-use Rattle.px_base.specs.CallSign.{CallSign}
-use Rattle.ftl0_session.proofs.uploads.UploadRows.{same_call-decides}
-use Rattle.ftl0_server.specs.Connection.Connected.{Connected, caller_of}
-use Rattle.ftl0_server.specs.Server.{Server}
-use Rattle.ftl0_server.specs.Slots.{Slot, all_freed, connected, free, freed, leaving, place_of}
-use Rattle.air_attempt.specs.Laws.{IsBetween, IsSeatedIn}
-use Rattle.air_attempt.specs.Transfers.{connection_at, connection_of}
-use Rattle.air_attempt.proofs.Offered.{old-connection, old-none, place-of-is, place-of-not}
+use Rattle.std.specs.Prelude.{find, if◌then◌else◌}
+use Rattle.ftl0_server.specs.Slots.{place_of}
+use Rattle.air_rehearsal.proofs.Names.{cond, is_some, slice_get, option_and_then, option_map, same_Some, slice_get-map, CallSign, same_call-decides, Connected, caller_of, Server, Slot, all_freed, connected, free, freed, leaving, IsBetween, IsSeatedIn, connection_at, connection_of, old-connection, old-none, place-of-is, place-of-not}
 
 -- ---- places whose sessions are over are free
 

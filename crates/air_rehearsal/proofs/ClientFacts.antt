@@ -1,17 +1,8 @@
 -- What an event in which a client takes part is for each station.
-use Rattle.std.specs.Prelude.{◌≡◌, ◌≢◌, ℕ, zero, suc, ◌==◌, Bool, false, if◌then◌else◌, slice_get, Some, refl}
+use Rattle.std.specs.Prelude.{◌≡◌, ◌≢◌, ◌==◌, if◌then◌else◌}
 use Rattle.std.proofs.Common.{sym, ap, ◌∙◌, subst, inl, inr, arith}
-use Rattle.std.proofs.lemmas.Bool.{eq-eqb}
-use Rattle.std.proofs.lemmas.Bool.Decides.{eqb_tells}
-use Rattle.std.proofs.lemmas.Option.{same_Some}
-use Rattle.air_attempt.specs.Lists.{Placed}
 use Rattle.air_attempt.specs.Party.{Party}
-use Rattle.air_world.specs.Cuts.{ClientEvent, Happens}
-use Rattle.air_world.specs.Events.{ClientPart, ClientTakes, DeliversToClient, IsPartOf}
-use Rattle.air_world.specs.Schedule.{Event, ask_download, ask_list, ask_resume, ask_upload, break_client, cut_client}
-use Rattle.air_world.specs.Schedule.{cut_server, tick_client, tick_server, to_client, to_server}
-use Rattle.air_world.specs.World.{World}
-use Rattle.air_rehearsal.specs.Stations.{Role, acts, client_at, for_client, looks_on, role_of, the_server}
+use Rattle.air_rehearsal.proofs.Names.{ℕ, zero, suc, Bool, false, slice_get, Some, refl, eq-eqb, eqb_tells, same_Some, Placed, ClientEvent, Happens, ClientPart, ClientTakes, DeliversToClient, IsPartOf, Event, ask_download, ask_list, ask_resume, ask_upload, break_client, cut_client, cut_server, tick_client, tick_server, to_client, to_server, World, Role, acts, client_at, for_client, looks_on, role_of, the_server}
 
 -- it is this client's alone
 pub record IsClients (event : Event) (c : ℕ) (role : Role) : Type 0 where

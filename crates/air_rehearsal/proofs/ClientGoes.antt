@@ -1,40 +1,14 @@
 -- An event of a client makes a next world of the one that is played.
-use Rattle.std.specs.Prelude.{◌≡◌, ◌≢◌, ◌⊎◌, ℕ, zero, suc, [], ◌∷◌, is_some, ◌-◌, ◌<◌, List, length, slice_get, slice_set, Option, None, Some, refl}
+use Rattle.std.specs.Prelude.{◌≡◌, ◌≢◌, ◌⊎◌, ◌∷◌, ◌-◌, ◌<◌}
 use Rattle.std.proofs.Common.{sym, ap, ◌∙◌, subst, inl, inr, arith}
-use Rattle.std.proofs.lemmas.Option.{same_Some}
-use Rattle.disk_model.specs.Cuts.{Cuts}
-use Rattle.disk_model.specs.Moments.{LeavesOnly}
-use Rattle.disk_model.specs.declared.disk.Disk.{Ghosts}
-use Rattle.file_journal.proofs.Offered.{told_weaker, weaker}
-use Rattle.ax25_link.specs.Window.{window_of}
 use Rattle.client_notes.specs.Several as notes
 use Rattle.client_notes.specs.State as notes_state
-use Rattle.ftl0_server.specs.Server.{Server}
-use Rattle.ftl0_server.specs.ServerState.{IsServer, ServerState}
-use Rattle.file_store.specs.State.{StandsFor as StandsForStore, store_on}
+use Rattle.file_store.specs.State.{StandsFor as StandsForStore}
 use Rattle.air_attempt.specs.Party.{Party}
-use Rattle.air_world.specs.Cuts.{WorldStep, client_commands}
-use Rattle.air_world.specs.Events.{ClientPart, ClientTakes}
-use Rattle.air_world.specs.Laws.{SoundLaw}
-use Rattle.air_world.specs.Schedule.{Event}
-use Rattle.air_world.specs.World.{PartyAt, World}
-use Rattle.air_rehearsal.specs.Chain.{CarriesOut, DiskStep, Stage, StepBy}
-use Rattle.air_rehearsal.specs.Counting.{Tells}
-use Rattle.air_rehearsal.specs.Playing.{Bench, GoesOn, IsBench, IsStage, client_count, counts_with}
-use Rattle.air_rehearsal.specs.Report.{Report}
-use Rattle.air_rehearsal.specs.ServerEvents.{waiting_of}
-use Rattle.air_rehearsal.specs.Standing.{Makes, StandsDuring, StandsFor, StandsNow, least_done}
-use Rattle.air_rehearsal.specs.Stations.{Role, Station, acts, client_at, looks_on, role_of, the_server, waiting_after}
-use Rattle.air_rehearsal.specs.TakingPart.{CarriesPart, DoesPart, HasDone}
-use Rattle.air_rehearsal.specs.Worlds.{IsSteady, PlayParties, PlaysParty, PlaysStations, asked_from}
-use Rattle.air_rehearsal.specs.declared.cuts.Cut.{Cut}
-use Rattle.air_rehearsal.specs.declared.party.Party.{Party as StoredParty}
+use Rattle.air_rehearsal.specs.Standing.{StandsFor}
+use Rattle.air_rehearsal.proofs.Names.{ℕ, zero, suc, [], is_some, List, length, slice_get, slice_set, Option, None, Some, refl, same_Some, Cuts, LeavesOnly, Ghosts, told_weaker, weaker, window_of, Server, IsServer, ServerState, store_on, WorldStep, client_commands, ClientPart, ClientTakes, SoundLaw, Event, PartyAt, World, CarriesOut, DiskStep, Stage, StepBy, Tells, Bench, GoesOn, IsBench, IsStage, client_count, counts_with, Report, waiting_of, Makes, StandsDuring, StandsNow, least_done, Role, Station, acts, client_at, looks_on, role_of, the_server, waiting_after, CarriesPart, DoesPart, HasDone, IsSteady, PlayParties, PlaysParty, PlaysStations, asked_from, Cut, Party as StoredParty, Form, Lists, NotesCommand, notes_form}
 use Rattle.air_rehearsal.proofs.BenchLemmas.{played_at, plays_set, set_count}
 use Rattle.air_rehearsal.proofs.ServerGoes.{stands_still}
-use Rattle.file_journal.specs.Form.{Form}
-use Rattle.client_notes.specs.Notes.{Lists}
-use Rattle.client_notes.specs.Command.{NotesCommand}
-use Rattle.client_notes.specs.Records.{notes_form}
 
 module _ {B : Type 0} (g : Ghosts B) (world : World) (event : Event) (c : ℕ) (part : ClientPart)
     (takes : ClientTakes world event c part) where

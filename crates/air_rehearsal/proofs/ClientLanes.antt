@@ -2,31 +2,11 @@
 -- or are behind those that were sent.
 use Rattle.std.proofs.Common.{◌≡◌, ℕ, zero, suc, List, [], ◌∷◌, Bool, true, false, Option, None, Some, refl, sym, ap}
 use Rattle.std.proofs.Common.{subst, ◌∙◌}
-use Rattle.std.specs.Prelude.{slice_get, if◌then◌else◌, ⊤}
-use Rattle.std.specs.List.{AllByRecursion}
-use Rattle.std.proofs.lemmas.Option.{slice_get_within}
-use Rattle.px_base.specs.CallSign.{CallSign}
-use Rattle.ax25_link.specs.Air.{Transmission, sending_all}
-use Rattle.ax25_link.proofs.Offered.{slice_get-set_same}
-use Rattle.ftl0_client.specs.Attempt.Attempted.{Attempted}
-use Rattle.ftl0_client.specs.Client.{ClientEvent, asks, hears, ticks}
+use Rattle.std.specs.Prelude.{if◌then◌else◌}
+use Rattle.ftl0_client.specs.Client.{ClientEvent, hears, ticks}
 use Rattle.ftl0_client.specs.Entries as job
-use Rattle.air_attempt.specs.Attempt.{Attempt, IsAttempt, IsOneCall}
-use Rattle.air_attempt.specs.Lists.{Placed}
-use Rattle.air_attempt.specs.Party.{IsLinkOf, Party, client_sends, to_client_delivered, with_newest}
-use Rattle.air_attempt.specs.Transfers.{ClientDid, after_event, called_again, did_by, has_call, job_gone_on}
-use Rattle.air_world.specs.Cuts.{ClientDoes, ClientEvent as ClientIn, Happens}
-use Rattle.air_world.specs.Events.{ClientPart, ClientTakes, DeliversToClient, IsPartOf, IsResuming}
-use Rattle.air_world.specs.Lawful.{IsAllowed}
-use Rattle.air_world.specs.Laws.{SoundLaw}
-use Rattle.air_world.specs.Schedule.{Event, ask_download, ask_list, ask_resume, ask_upload, break_client, cut_client}
-use Rattle.air_world.specs.Schedule.{cut_server, tick_client, tick_server, to_client, to_server}
-use Rattle.air_world.specs.Sound.{IsParty, Sound}
-use Rattle.air_world.specs.Step.{ClientGoes, party_after, with_asked}
-use Rattle.air_world.specs.World.{PartyAt, World}
-use Rattle.air_rehearsal.specs.LaneLaws.{ClientLanesLaw}
-use Rattle.air_rehearsal.specs.Lanes.{lanes_of, sending_each}
-use Rattle.air_rehearsal.specs.TakingPart.{PartyGoes}
+use Rattle.air_attempt.specs.Party.{Party}
+use Rattle.air_rehearsal.proofs.Names.{slice_get, ⊤, AllByRecursion, slice_get_within, CallSign, Transmission, sending_all, slice_get-set_same, Attempted, asks, Attempt, IsAttempt, IsOneCall, Placed, IsLinkOf, client_sends, to_client_delivered, with_newest, ClientDid, after_event, called_again, did_by, has_call, job_gone_on, ClientDoes, ClientEvent as ClientIn, Happens, ClientPart, ClientTakes, DeliversToClient, IsPartOf, IsResuming, IsAllowed, SoundLaw, Event, ask_download, ask_list, ask_resume, ask_upload, break_client, cut_client, cut_server, tick_client, tick_server, to_client, to_server, IsParty, Sound, ClientGoes, party_after, with_asked, PartyAt, World, ClientLanesLaw, lanes_of, sending_each, PartyGoes}
 use Rattle.air_rehearsal.proofs.ClientSends.{GoesBy, goes-by}
 use Rattle.air_rehearsal.proofs.SentLanes.{begun_by, lanes-count, no-call-behind, sending-begins, sending-each}
 

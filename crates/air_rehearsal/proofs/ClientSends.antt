@@ -1,17 +1,12 @@
 -- What a client's step keeps, whatever it sends: it has a link behind an asking and where it had one, and without one
 -- a tick sends nothing.
 use Rattle.std.proofs.Common.{◌≡◌, List, [], ◌∷◌, Option, None, Some, refl, sym, ap, subst, ◌∙◌}
-use Rattle.std.specs.Prelude.{⊤}
-use Rattle.std.proofs.lemmas.Option.{same_Some}
-use Rattle.ax25_frames.specs.FrameText.{FrameValue}
 use Rattle.ax25_link.specs.Refusals.{refusal_frame}
-use Rattle.ax25_link.specs.Sending.{Sending, next_sending}
-use Rattle.client_notes.specs.Command.{NotesCommand}
-use Rattle.ftl0_client.specs.Attempt.Attempted.{Attempted, calling}
 use Rattle.ftl0_client.specs.Attempt.Hearing.{ticking, with_end}
-use Rattle.ftl0_client.specs.Client.{Client, ClientEvent, ClientSends, IsSilent, Refused, asking, asks}
-use Rattle.ftl0_client.specs.Client.{hears, sends_by, sends_of_attempt, sends_of_link, ticking_by, ticks, with_attempt}
-use Rattle.ftl0_client.specs.ClientStep.{ClientStep, Empties}
+use Rattle.ftl0_client.specs.Client.{ClientEvent}
+use Rattle.ftl0_client.specs.Client.{hears, ticks}
+use Rattle.ftl0_client.specs.ClientStep.{Empties}
+use Rattle.air_rehearsal.proofs.Names.{⊤, same_Some, FrameValue, Sending, next_sending, NotesCommand, Attempted, calling, Client, ClientSends, IsSilent, Refused, asking, asks, sends_by, sends_of_attempt, sends_of_link, ticking_by, with_attempt, ClientStep}
 
 -- it has a link
 abbrev pub HasLink : Client → Type 0

@@ -1,24 +1,13 @@
 -- Which part a client has in an event, in whichever world the event may come.
-use Rattle.std.specs.Prelude.{◌≡◌, ℕ, zero, suc, List, Some, refl}
+use Rattle.std.specs.Prelude.{◌≡◌}
 use Rattle.std.proofs.Common.{sym, ap, ◌∙◌, subst}
 use Rattle.ftl0_client.specs.Client.{hears, ticks}
 use Rattle.ftl0_job.specs.Directory.{new_directory}
-use Rattle.ftl0_job.specs.Download.{new_download}
-use Rattle.ftl0_job.specs.Upload.{new_upload}
 use Rattle.ftl0_job.specs.declared.work.Work.TheVariants as work
-use Rattle.air_attempt.specs.Party.{Party, file_of_task, to_client_delivered}
-use Rattle.air_world.specs.Events.{asking, part_with, with_current}
-use Rattle.air_world.specs.Schedule.{ask_download, ask_list, ask_resume, tick_client, to_client}
-use Rattle.air_world.specs.World.{World}
-use Rattle.air_rehearsal.specs.Seats.{ComesAlways, ComesTo}
-use Rattle.air_rehearsal.specs.Numbers.{numbered}
-use Rattle.air_rehearsal.specs.PartyCalls.{IsLastGoing}
-use Rattle.air_rehearsal.specs.TakingPart.{IsSeat, Seat}
-use Rattle.air_rehearsal.specs.Worlds.{PlaysParty, PlaysStations}
-use Rattle.air_rehearsal.specs.declared.part.Part.{Part}
+use Rattle.air_attempt.specs.Party.{Party}
+use Rattle.air_world.specs.Events.{asking}
 use Rattle.air_rehearsal.specs.declared.part.Part.TheVariants as stored
-use Rattle.air_rehearsal.specs.declared.party.Party.{Party as StoredParty}
-use Rattle.air_rehearsal.specs.declared.stations.Stations.{Stations}
+use Rattle.air_rehearsal.proofs.Names.{ℕ, zero, suc, List, Some, refl, new_download, new_upload, file_of_task, to_client_delivered, part_with, with_current, ask_download, ask_list, ask_resume, tick_client, to_client, World, ComesAlways, ComesTo, numbered, IsLastGoing, IsSeat, Seat, PlaysParty, PlaysStations, Part, Party as StoredParty, Stations}
 use Rattle.air_rehearsal.proofs.AllowedLemmas.{has-party}
 
 pub list_comes :

@@ -8,23 +8,9 @@
 --     came-same, came-at                 what one event adds where no client's attempt changes, or that of one place
 use Rattle.std.proofs.Common.{◌≡◌, ◌≢◌, ℕ, zero, suc, ◌+◌, ◌<◌, List, [], ◌∷◌, ◌++◌, length, map, Bool, true, false}
 use Rattle.std.proofs.Common.{◌&&◌, cond, Option, None, Some, refl, ap, subst, ◌∙◌, inl, inr, arith, length-append}
-use Rattle.std.specs.Prelude.{slice_get, slice_set}
-use Rattle.std.specs.List.{AllZip, count_by, range_with_len, sum_by, zip}
-use Rattle.std.proofs.lemmas.Bool.{cases_lt}
-use Rattle.std.proofs.lemmas.List.FromFn.{sum_by-map-range_with_len_more}
-use Rattle.std.proofs.lemmas.List.Sums.{sum_by-append, sum_by-cons}
-use Rattle.std.proofs.lemmas.Option.{same_Some}
-use Rattle.ftl0_client.specs.declared.outcome.Outcome.{Outcome}
 use Rattle.ftl0_client.specs.declared.outcome.Outcome.TheVariants as outcome
-use Rattle.ftl0_client.specs.Outcomes.{outcome_by}
 use Rattle.air_attempt.specs.Party.{Party}
-use Rattle.air_world.specs.Schedule.{Event, Schedule}
-use Rattle.air_world.specs.World.{World}
-use Rattle.air_rehearsal.specs.Counting.{one_if}
-use Rattle.air_rehearsal.specs.Rehearsed.{until}
-use Rattle.air_rehearsal.specs.Report.{came_to, cuts_of, is_question, is_working, last_world, times}
-use Rattle.air_rehearsal.specs.Stations.{IsStationOf, Role, Station, acts, breaks_off, client_at, cut_worlds, looks_on}
-use Rattle.air_rehearsal.specs.Stations.{role_of, stations_of, the_server, waiting_after, will_be_cut, with_cut}
+use Rattle.air_rehearsal.proofs.Names.{slice_get, slice_set, AllZip, count_by, range_with_len, sum_by, zip, cases_lt, sum_by-map-range_with_len_more, sum_by-append, sum_by-cons, same_Some, Outcome, outcome_by, Event, Schedule, World, one_if, until, came_to, cuts_of, is_question, is_working, last_world, times, IsStationOf, Role, Station, acts, breaks_off, client_at, cut_worlds, looks_on, role_of, stations_of, the_server, waiting_after, will_be_cut, with_cut}
 
 -- ---- counts of lists
 

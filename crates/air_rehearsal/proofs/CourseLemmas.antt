@@ -1,20 +1,7 @@
 -- A rehearsal that goes on by one event.
-use Rattle.std.specs.Prelude.{◌≡◌, ℕ, zero, suc, ◌+◌, ◌<◌, List, [], ◌∷◌, ◌++◌, length, map, slice_get, Some, refl}
+use Rattle.std.specs.Prelude.{◌≡◌, ◌+◌, ◌<◌, ◌∷◌, ◌++◌}
 use Rattle.std.proofs.Common.{sym, ap, ◌∙◌, subst, arith}
-use Rattle.disk_model.specs.Cuts.{Cuts}
-use Rattle.disk_model.specs.declared.disk.Disk.{Ghosts}
-use Rattle.air_world.specs.Cuts.{Plays, WorldStep}
-use Rattle.air_world.specs.Schedule.{Event, Schedule}
-use Rattle.air_world.specs.World.{World, first_world}
-use Rattle.air_rehearsal.specs.Chain.{DiskStep, Follow, Stage, last_stage}
-use Rattle.air_rehearsal.specs.Course.{HasPlayed, Path, counts_to}
-use Rattle.air_rehearsal.specs.Playing.{Bench, IsBench, IsPlaying, IsStage, PlaysEvent, client_count}
-use Rattle.air_rehearsal.specs.Counting.{Tells}
-use Rattle.air_rehearsal.specs.Played.{first_stage}
-use Rattle.air_rehearsal.specs.Rehearsed.{until}
-use Rattle.air_rehearsal.specs.Report.{last_world}
-use Rattle.air_rehearsal.specs.declared.stations.Stations.{Stations}
-use Rattle.air_rehearsal.specs.Stations.{IsStationOf, Station, client_at, the_server}
+use Rattle.air_rehearsal.proofs.Names.{ℕ, zero, suc, List, [], length, map, slice_get, Some, refl, Cuts, Ghosts, Plays, WorldStep, Event, Schedule, World, first_world, DiskStep, Follow, Stage, last_stage, HasPlayed, Path, counts_to, Bench, IsBench, IsPlaying, IsStage, PlaysEvent, client_count, Tells, first_stage, until, last_world, Stations, IsStationOf, Station, client_at, the_server}
 
 pub plays_more :
     (world : World) (events : List Event) (worlds : List World) (event : Event) (next : World)

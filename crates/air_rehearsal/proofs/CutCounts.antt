@@ -1,20 +1,7 @@
 -- How many stations' power is cut in an event: that of the one that takes part, where a cut waits for it.
-use Rattle.std.specs.Prelude.{◌≡◌, ◌≢◌, ℕ, zero, suc, ◌+◌, ◌<◌, ◌≤◌, [], length, map, slice_get, is_some, Option}
-use Rattle.std.specs.Prelude.{None, Some, refl}
-use Rattle.std.specs.Option.{option_and_then}
-use Rattle.std.specs.List.{range_with_len, sum_by}
+use Rattle.std.specs.Prelude.{◌≡◌, ◌≢◌, ◌+◌, ◌<◌, ◌≤◌}
 use Rattle.std.proofs.Common.{sym, ap, ◌∙◌, subst, inl, inr, arith}
-use Rattle.std.proofs.lemmas.List.Sums.{sum_by-cons}
-use Rattle.air_world.specs.Schedule.{Event}
-use Rattle.air_world.specs.World.{World}
-use Rattle.air_rehearsal.specs.Playing.{client_count, cuts_in, waiting_in}
-use Rattle.air_rehearsal.specs.Counting.{one_if}
-use Rattle.air_rehearsal.specs.ServerEvents.{waiting_of}
-use Rattle.air_rehearsal.specs.Stations.{Role, Station, acts, breaks_off, client_at, looks_on, role_of, the_server}
-use Rattle.air_rehearsal.specs.Stations.{will_be_cut, with_cut}
-use Rattle.air_rehearsal.specs.declared.cuts.Cut.{Cut}
-use Rattle.air_rehearsal.specs.declared.party.Party.{Party as StoredParty}
-use Rattle.air_rehearsal.specs.declared.stations.Stations.{Stations}
+use Rattle.air_rehearsal.proofs.Names.{ℕ, zero, suc, [], length, map, slice_get, is_some, Option, None, Some, refl, option_and_then, range_with_len, sum_by, sum_by-cons, Event, World, client_count, cuts_in, waiting_in, one_if, waiting_of, Role, Station, acts, breaks_off, client_at, looks_on, role_of, the_server, will_be_cut, with_cut, Cut, Party as StoredParty, Stations}
 use Rattle.air_rehearsal.proofs.ClientGoes.{same_or_other}
 
 other_less : (from c : ℕ) → from ≤ c → c ≢ from → from < c

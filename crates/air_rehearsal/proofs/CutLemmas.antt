@@ -2,40 +2,12 @@
 use Rattle.std.proofs.Common.{◌≡◌, ◌≢◌, ◌⊎◌, ℕ, zero, suc, ◌+◌, ◌-◌, ◌<◌, ◌≤◌, List, [], ◌∷◌, ◌++◌, length, take, refl, sym, ap}
 use Rattle.std.proofs.Common.{◌∙◌, subst, inl, inr, arith, false, Option, None, Some, Result, Ok, Err}
 use Rattle.std.proofs.Common.{length-append}
-use Rattle.std.specs.Prelude.{IfSome, OnOk, is_some, ⊤}
-use Rattle.std.proofs.lemmas.List.{append-nil}
-use Rattle.px_base.specs.CallSign.{CallSign}
-use Rattle.disk_model.specs.Cuts.{Arming, ArmsOnly, Cuts, Failed, LastsSo, Passes, UsesUp, cut_state}
-use Rattle.disk_model.specs.Disk.{IsTold}
-use Rattle.disk_model.specs.declared.disk.Disk.{Ghosts}
-use Rattle.disk_model.specs.declared.halt.Halt.{Halt}
 use Rattle.disk_model.specs.declared.halt.Halt.TheVariants as halt
-use Rattle.file_journal.specs.Calls.{EachImage, images_now}
-use Rattle.file_journal.specs.Walk.{state}
-use Rattle.file_journal.proofs.Offered.{at_told, makes_within}
-use Rattle.ax25_link.specs.Window.{Window, window_of}
-use Rattle.client_notes.specs.Command.{NotesCommand}
-use Rattle.client_notes.specs.Notes.{Lists, task_count}
-use Rattle.client_notes.specs.Records.{notes_form}
 use Rattle.client_notes.specs.Several as notes
-use Rattle.client_notes.specs.State.{StandsFor}
-use Rattle.ftl0_client.specs.Client.{Client, new_client}
-use Rattle.ftl0_client.specs.ClientState.{ClientState, IsClient}
 use Rattle.air_attempt.specs.Party.{Party}
-use Rattle.air_world.specs.Cuts.{client_commands, party_cut, started_again}
-use Rattle.air_world.specs.Events.{ClientPart}
-use Rattle.air_rehearsal.specs.Lanes.{HasLanes, lanes_of}
-use Rattle.air_rehearsal.specs.PartCalls.{BeCut, Restarts, TouchesPart, uploads_by, uploads_then}
-use Rattle.air_rehearsal.specs.PartyCalls.{BreaksOff}
-use Rattle.air_rehearsal.specs.Ready.{IsReadyParty}
-use Rattle.air_rehearsal.specs.Standing.{least_done}
-use Rattle.air_rehearsal.specs.Strikes.{Strikes}
-use Rattle.air_rehearsal.specs.TakingPart.{HasAll, HasDone, IsPart, IsSeat, Seat}
-use Rattle.air_rehearsal.specs.Worlds.{IsSteady}
 use Rattle.air_rehearsal.specs.declared.attempt.Attempt.{Attempt as StoredAttempt}
-use Rattle.air_rehearsal.specs.declared.part.Part.{Part}
 use Rattle.air_rehearsal.specs.declared.part.Part.TheVariants as stored
-use Rattle.air_rehearsal.specs.declared.party.Party.{Party as StoredParty}
+use Rattle.air_rehearsal.proofs.Names.{IfSome, OnOk, is_some, ⊤, append-nil, CallSign, Arming, ArmsOnly, Cuts, Failed, LastsSo, Passes, UsesUp, cut_state, IsTold, Ghosts, Halt, EachImage, images_now, state, at_told, makes_within, Window, window_of, NotesCommand, Lists, task_count, notes_form, StandsFor, Client, new_client, ClientState, IsClient, client_commands, party_cut, started_again, ClientPart, HasLanes, lanes_of, BeCut, Restarts, TouchesPart, uploads_by, uploads_then, BreaksOff, IsReadyParty, least_done, Strikes, HasAll, HasDone, IsPart, IsSeat, Seat, IsSteady, Part, Party as StoredParty}
 use Rattle.air_rehearsal.proofs.PartLemmas.{least_most, steady_on}
 use Rattle.air_rehearsal.proofs.UploadLemmas.{part_is_for, start_of, uploads_more, uploads_same}
 

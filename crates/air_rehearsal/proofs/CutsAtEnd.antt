@@ -1,17 +1,7 @@
 -- What a station's disk tells of its power cuts, once a schedule was played on it, and once it was started again.
-use Rattle.std.specs.Prelude.{◌≡◌, ℕ, List, [], map, None, Option, Some, IfSome, refl}
+use Rattle.std.specs.Prelude.{◌≡◌}
 use Rattle.std.proofs.Common.{sym, ◌∙◌, subst}
-use Rattle.std.proofs.lemmas.Option.{same_Some}
-use Rattle.disk_model.specs.Cuts.{Cuts, LastsSo, cut_state}
-use Rattle.disk_model.specs.Disk.{IsTold}
-use Rattle.disk_model.specs.declared.disk.Disk.{Ghosts}
-use Rattle.air_world.specs.Schedule.{Schedule}
-use Rattle.air_world.specs.World.{World, first_world}
-use Rattle.air_rehearsal.specs.Chain.{Follow, Stage, last_stage}
-use Rattle.air_rehearsal.specs.Played.{BenchPlayed, EndsWhole, Opens, StandInTurn, TellsCuts, first_stage}
-use Rattle.air_rehearsal.specs.Rehearsed.{TellAllCuts}
-use Rattle.air_rehearsal.specs.Standing.{StandsNow}
-use Rattle.air_rehearsal.specs.Stations.{Station, client_at, cut_worlds, the_server}
+use Rattle.air_rehearsal.proofs.Names.{ℕ, List, [], map, None, Option, Some, IfSome, refl, same_Some, Cuts, LastsSo, cut_state, IsTold, Ghosts, Schedule, World, first_world, Follow, Stage, last_stage, BenchPlayed, EndsWhole, Opens, StandInTurn, TellsCuts, first_stage, TellAllCuts, StandsNow, Station, client_at, cut_worlds, the_server}
 use Rattle.air_rehearsal.proofs.CutsTold.{tells_all}
 
 -- the disk tells no restart, where it tells any

@@ -1,17 +1,8 @@
 -- What a disk tells of its power cuts follows from its stages.
-use Rattle.std.specs.Prelude.{◌≡◌, ℕ, List, [], ◌∷◌, ◌++◌, map, true, false, Option, None, Some, IfSome, refl}
-use Rattle.std.specs.Option.{option_map}
+use Rattle.std.specs.Prelude.{◌≡◌, ◌∷◌, ◌++◌}
 use Rattle.std.proofs.Common.{sym, ap, ◌∙◌, subst, append_assoc, append-nil}
-use Rattle.disk_model.specs.Cuts.{Cuts, LastsSo, cut_state}
-use Rattle.disk_model.specs.Disk.{IsTold}
-use Rattle.disk_model.specs.declared.disk.Disk.{Ghosts}
-use Rattle.air_world.specs.Schedule.{Event}
-use Rattle.air_world.specs.World.{World}
-use Rattle.air_rehearsal.specs.Chain.{Follow, IsCutOff, Stage, StepBy, last_stage}
-use Rattle.air_rehearsal.specs.Played.{StandInTurn}
 use Rattle.air_rehearsal.specs.Standing.{StandsFor}
-use Rattle.air_rehearsal.specs.Stations.{Role, Station, acts, breaks_off, cut_worlds, looks_on, role_of, waiting_after}
-use Rattle.air_rehearsal.specs.Stations.{will_be_cut, with_cut}
+use Rattle.air_rehearsal.proofs.Names.{ℕ, List, [], map, true, false, Option, None, Some, IfSome, refl, option_map, Cuts, LastsSo, cut_state, IsTold, Ghosts, Event, World, Follow, IsCutOff, Stage, StepBy, last_stage, StandInTurn, Role, Station, acts, breaks_off, cut_worlds, looks_on, role_of, waiting_after, will_be_cut, with_cut}
 
 stand_more :
     (station : Station) (world : World) (content : List ℕ) (worlds : List World) (contents : List (List ℕ))

@@ -1,23 +1,11 @@
 -- What the definitions of a generator say of one step more.
-use Rattle.std.specs.Prelude.{◌≡◌, ℕ, zero, suc, ◌+◌, ◌-◌, ◌%◌, ◌<◌, ◌≤◌, ◌==◌, List, [], ◌∷◌, ◌++◌, Option, refl}
-use Rattle.std.specs.Prelude.{IfSome, None}
-use Rattle.std.specs.List.{range_with_len}
-use Rattle.std.specs.Option.{option_map}
+use Rattle.std.specs.Prelude.{◌≡◌, ◌+◌, ◌-◌, ◌%◌, ◌<◌, ◌≤◌, ◌==◌, ◌∷◌, ◌++◌}
 use Rattle.std.proofs.Common.{sym, ap, ◌∙◌, subst, inl, inr, arith}
-use Rattle.std.proofs.lemmas.Bool.{cases_lt, eq-eqb, ne_eqb}
-use Rattle.air_schedule.specs.Events.{event_value}
 use Rattle.air_schedule.specs.declared.event.Event.{Event as StoredEvent}
-use Rattle.air_world.specs.Schedule.{Event, IsInRange, to_client}
-use Rattle.air_rehearsal.specs.Drawn.{rounds}
-use Rattle.air_rehearsal.specs.Driving.{delivery_of}
-use Rattle.air_rehearsal.specs.Generator.{Answers, Carries, CarriesOne, Drawing, Exchange, Exchanges, IsClosed, Tries}
-use Rattle.air_rehearsal.specs.Generator.{TriesIf, TriesTimes, Turns, between, drawn, fate_of, is_none_of}
-use Rattle.air_rehearsal.specs.Generator.{next_fate, next_number, put_off, still_looked, times_of}
-use Rattle.air_rehearsal.specs.declared.generator.Fate.{Fate}
 use Rattle.air_rehearsal.specs.declared.generator.Fate.TheVariants.{Late, Lost, Once, Twice}
-use Rattle.air_rehearsal.specs.declared.generator.Looked.{Looked}
 use Rattle.air_rehearsal.specs.declared.generator.Way.{Way}
 use Rattle.air_rehearsal.specs.declared.generator.Way.TheVariants.{ToClient, ToServer}
+use Rattle.air_rehearsal.proofs.Names.{ℕ, zero, suc, List, [], Option, refl, IfSome, None, range_with_len, option_map, cases_lt, eq-eqb, ne_eqb, event_value, Event, IsInRange, to_client, rounds, delivery_of, Answers, Carries, CarriesOne, Drawing, Exchange, Exchanges, IsClosed, Tries, TriesIf, TriesTimes, Turns, between, drawn, fate_of, is_none_of, next_fate, next_number, put_off, still_looked, times_of, Fate, Looked}
 use Rattle.air_rehearsal.proofs.DriveLemmas.{Then}
 
 -- ---- transmissions

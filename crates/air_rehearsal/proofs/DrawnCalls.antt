@@ -1,10 +1,7 @@
 -- The calls of the clients for which schedules are drawn.
-use Rattle.std.specs.Prelude.{◌≡◌, ◌≢◌, ℕ, List, [], ◌∷◌, get_or, IsTrue, true, refl}
+use Rattle.std.specs.Prelude.{◌≡◌, ◌≢◌, ◌∷◌}
 use Rattle.std.proofs.Common.{ap, arith, inr}
-use Rattle.std.proofs.lemmas.List.Elements.{All-from_recursion}
-use Rattle.px_base.specs.CallSign.{CallSign, CallText, IsBase, IsCall, OneCall, is_call_char}
-use Rattle.air_world.specs.Schedule.{IsSchedule}
-use Rattle.air_rehearsal.specs.Drawn.{drawn_calls}
+use Rattle.air_rehearsal.proofs.Names.{ℕ, List, [], get_or, IsTrue, true, refl, All-from_recursion, CallSign, CallText, IsBase, IsCall, OneCall, is_call_char, IsSchedule, drawn_calls}
 use Rattle.air_rehearsal.proofs.DrivenLemmas.{drawn_schedule}
 
 -- the call with this digit

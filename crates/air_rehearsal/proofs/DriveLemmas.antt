@@ -1,23 +1,8 @@
 -- The calls of a driver, one after another.
-use Rattle.std.specs.Prelude.{◌≡◌, ℕ, List, [], ◌∷◌, ◌++◌, Option, Result, Ok, Err, IfOk, OnOk, refl}
-use Rattle.std.specs.Option.{option_map}
+use Rattle.std.specs.Prelude.{◌≡◌, ◌∷◌, ◌++◌}
 use Rattle.std.proofs.Common.{sym, ap, subst, inl, inr, arith, append_assoc}
-use Rattle.disk_model.specs.Cuts.{Cuts}
-use Rattle.disk_model.specs.declared.disk.Disk.{Ghosts}
-use Rattle.ftl0_server.specs.ServerState.{ServerState}
-use Rattle.air_schedule.specs.Events.{event_value}
 use Rattle.air_schedule.specs.declared.event.Event.{Event as StoredEvent}
-use Rattle.air_world.specs.Lawful.{IsAllowed}
-use Rattle.air_world.specs.Schedule.{Event}
-use Rattle.air_world.specs.World.{World}
-use Rattle.air_rehearsal.specs.Driving.{Comes, Driven, Drives, IsDraw, IsReadyBench, PlaysEach, StopsDriving}
-use Rattle.air_rehearsal.specs.Generator.{Draw, Drawing, Takes, Tries, TriesIf, drawn, state_after}
-use Rattle.air_rehearsal.specs.Halfway.{StopsEvent}
-use Rattle.air_rehearsal.specs.Playing.{Bench, IsPlaying, PlaysEvent, bench_of}
-use Rattle.air_rehearsal.specs.Ready.{AreReady, IsReadyServer}
-use Rattle.air_rehearsal.specs.Report.{last_world}
-use Rattle.air_rehearsal.specs.ServerEvents.{CanCount, CountsOn}
-use Rattle.air_rehearsal.specs.declared.stations.Stations.{Stations}
+use Rattle.air_rehearsal.proofs.Names.{ℕ, List, [], Option, Result, Ok, Err, IfOk, OnOk, refl, option_map, Cuts, Ghosts, ServerState, event_value, IsAllowed, Event, World, Comes, Driven, Drives, IsDraw, IsReadyBench, PlaysEach, StopsDriving, Draw, Drawing, Takes, Tries, TriesIf, drawn, state_after, StopsEvent, Bench, IsPlaying, PlaysEvent, bench_of, AreReady, IsReadyServer, last_world, CanCount, CountsOn, Stations}
 use Rattle.air_rehearsal.proofs.WholePlay.{playing_next}
 
 -- where a generator stands

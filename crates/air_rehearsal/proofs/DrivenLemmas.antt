@@ -1,26 +1,8 @@
 -- A rehearsal whose events are drawn, from its first event to its end.
-use Rattle.std.specs.Prelude.{◌≡◌, ℕ, zero, suc, ◌<◌, ◌≤◌, List, [], ◌∷◌, ◌++◌, length, slice_get, Some, refl}
-use Rattle.std.specs.List.{AllByRecursion}
+use Rattle.std.specs.Prelude.{◌≡◌, ◌<◌, ◌≤◌, ◌∷◌, ◌++◌}
 use Rattle.std.proofs.Common.{inr, sym, ap, ◌∙◌, subst, append_assoc, arith}
-use Rattle.std.proofs.lemmas.List.{append-nil}
-use Rattle.disk_model.specs.Cuts.{AreFresh, Cuts, LastsSo, cut_state}
-use Rattle.disk_model.specs.declared.disk.Disk.{Ghosts}
-use Rattle.air_world.specs.Cuts.{Plays}
-use Rattle.air_world.specs.Laws.{StoresLaw}
-use Rattle.air_world.specs.Schedule.{Event, IsInRange, IsSchedule, Schedule}
-use Rattle.air_world.specs.World.{World, first_world}
-use Rattle.air_rehearsal.specs.Chain.{Stage}
-use Rattle.air_rehearsal.specs.Counting.{EndsSo}
-use Rattle.air_rehearsal.specs.Course.{HasPlayed}
-use Rattle.air_rehearsal.specs.Drawn.{drawn_calls, rounds}
-use Rattle.air_rehearsal.specs.Driving.{Comes, Driven, Halts, PlaysEach, StopsDrawn}
-use Rattle.air_rehearsal.specs.Generator.{DrivenBy, IsDrawnBy, Turns}
-use Rattle.air_rehearsal.specs.Halfway.{TriesToStart}
-use Rattle.air_rehearsal.specs.Playing.{Bench, IsBench, IsStage, client_count}
-use Rattle.air_rehearsal.specs.Rehearsed.{EndsHalf, MayGoOn, until}
-use Rattle.air_rehearsal.specs.Report.{last_world}
-use Rattle.air_rehearsal.specs.Stations.{Station, place_of, the_server}
 use Rattle.air_rehearsal.specs.declared.report.Report.{Report as StoredReport}
+use Rattle.air_rehearsal.proofs.Names.{ℕ, zero, suc, List, [], length, slice_get, Some, refl, AllByRecursion, append-nil, AreFresh, Cuts, LastsSo, cut_state, Ghosts, Plays, StoresLaw, Event, IsInRange, IsSchedule, Schedule, World, first_world, Stage, EndsSo, HasPlayed, drawn_calls, rounds, Comes, Driven, Halts, PlaysEach, StopsDrawn, DrivenBy, IsDrawnBy, Turns, TriesToStart, Bench, IsBench, IsStage, client_count, EndsHalf, MayGoOn, until, last_world, Station, place_of, the_server}
 use Rattle.air_rehearsal.proofs.CourseLemmas.{last_more}
 use Rattle.air_rehearsal.proofs.DriveLemmas.{drawing, played_by}
 use Rattle.air_rehearsal.proofs.Finished.{bench_played, finished}

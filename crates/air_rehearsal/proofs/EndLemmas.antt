@@ -1,22 +1,9 @@
 -- The server's disk at the end: what is recovered from it is the world's store, and it stands for that then.
 use Rattle.std.proofs.Common.{◌≡◌, ℕ, ◌≤◌, List, true, false, Option, None, Some, IfSome, refl, inr, sym, ◌∙◌, subst, arith}
-use Rattle.disk_model.specs.Disk.{IsTold}
-use Rattle.disk_model.specs.declared.disk.Disk.{Ghosts}
-use Rattle.file_journal.specs.Calls.{ChangesReads, IsQuietNow, TellsAlike, images_now}
-use Rattle.file_journal.specs.Walk.{state}
-use Rattle.file_journal.proofs.Offered.{alike_on, alike_same, at_told, joined, reads, reads_now, told_weaker}
 use Rattle.file_store.specs.Recovery.{IsRecovered}
-use Rattle.file_store.specs.State.{IsKnown, IsReady, StandsFor, StoreState, standing_of, store_on}
-use Rattle.file_store.specs.Store.{Store}
-use Rattle.file_store.proofs.Offered.{on_same, stands-each}
-use Rattle.air_world.specs.World.{World, store_blocks}
-use Rattle.air_rehearsal.specs.Counting.{EndsSo}
-use Rattle.air_rehearsal.specs.Ending.{CountsAcked, LooksOnly}
-use Rattle.air_rehearsal.specs.Halfway.{TriesToStart}
-use Rattle.air_rehearsal.specs.Report.{all_tasks}
-use Rattle.air_rehearsal.specs.Standing.{StandsAlike, StandsNow}
-use Rattle.air_rehearsal.specs.Stations.{Station, the_server}
+use Rattle.file_store.specs.State.{StandsFor}
 use Rattle.air_rehearsal.specs.declared.report.Report.{Report as StoredReport}
+use Rattle.air_rehearsal.proofs.Names.{IsTold, Ghosts, ChangesReads, IsQuietNow, TellsAlike, images_now, state, alike_on, alike_same, at_told, joined, reads, reads_now, told_weaker, IsKnown, IsReady, StoreState, standing_of, store_on, Store, on_same, stands-each, World, store_blocks, EndsSo, CountsAcked, LooksOnly, TriesToStart, all_tasks, StandsAlike, StandsNow, Station, the_server}
 
 is-some : (content : Option (List ℕ)) → IsTold content → (octets : List ℕ) × (content ≡ Some octets)
 is-some None told = absurd (let e : false ≡ true = told in cc)

@@ -1,14 +1,7 @@
 -- An exchange, by what its two stations sent.
-use Rattle.std.specs.Prelude.{◌≡◌, ℕ, None, refl}
+use Rattle.std.specs.Prelude.{◌≡◌}
 use Rattle.std.proofs.Common.{sym, ap, ◌∙◌}
-use Rattle.disk_model.specs.Cuts.{Cuts}
-use Rattle.disk_model.specs.declared.disk.Disk.{Ghosts}
-use Rattle.air_world.specs.Schedule.{to_server}
-use Rattle.air_world.specs.World.{World}
-use Rattle.air_rehearsal.specs.Driving.{Driven, Drives}
-use Rattle.air_rehearsal.specs.Generator.{Answers, Carries, Drawing, Exchange, between, sent_of}
-use Rattle.air_rehearsal.specs.Playing.{IsPlaying}
-use Rattle.air_rehearsal.specs.declared.generator.Looked.{Looked}
+use Rattle.air_rehearsal.proofs.Names.{ℕ, None, refl, Cuts, Ghosts, to_server, World, Driven, Drives, Answers, Carries, Drawing, Exchange, between, sent_of, IsPlaying, Looked}
 use Rattle.air_rehearsal.proofs.DriveLemmas.{Then, drives_as, drives_in, drives_then}
 
 -- these were looked at

@@ -1,27 +1,9 @@
 -- A rehearsal that was played to its end, or came to an event that may not come.
-use Rattle.std.specs.Prelude.{◌≡◌, ℕ, zero, suc, ◌+◌, ◌<◌, List, [], ◌∷◌, ◌++◌, length, map, slice_get, Some}
-use Rattle.std.specs.Prelude.{refl}
+use Rattle.std.specs.Prelude.{◌≡◌, ◌+◌, ◌<◌, ◌∷◌, ◌++◌}
 use Rattle.std.proofs.Common.{sym, ap, ◌∙◌, subst, inl, inr, arith}
-use Rattle.std.specs.List.{AllByRecursion, flat_map, range_with_len}
-use Rattle.client_notes.specs.Notes.{task_count}
 use Rattle.air_attempt.specs.Party.{Party}
-use Rattle.disk_model.specs.Cuts.{AreFresh, Cuts, IsFresh, LastsSo, cut_state}
-use Rattle.disk_model.specs.declared.disk.Disk.{Ghosts}
-use Rattle.air_world.specs.Cuts.{IsRun}
-use Rattle.air_world.specs.Headline.{HeadlineIn}
-use Rattle.air_world.specs.Lawful.{IsAllowed}
-use Rattle.air_world.specs.Schedule.{Event, IsSchedule, Schedule}
-use Rattle.air_world.specs.World.{World, first_world}
-use Rattle.air_rehearsal.specs.Chain.{Stage, last_stage}
-use Rattle.air_rehearsal.specs.Counting.{EndsSo, Tells}
-use Rattle.air_rehearsal.specs.Course.{HasPlayed, counts_to}
-use Rattle.air_rehearsal.specs.Played.{BenchPlayed, EndsWhole, StaysSo, first_stage}
-use Rattle.air_rehearsal.specs.Playing.{Bench, IsStage}
-use Rattle.air_rehearsal.specs.Rehearsed.{IsUnlawful, Rehearsed, lines_before, until}
-use Rattle.air_rehearsal.specs.Report.{ClientTask, CountOf, IsAcked, IsAckedAndKept, Report, all_tasks, last_world}
-use Rattle.air_rehearsal.specs.Report.{tasks_of}
-use Rattle.air_rehearsal.specs.Stations.{IsStationOf, Station, client_at, place_of, the_server}
 use Rattle.air_rehearsal.specs.declared.report.Report.{Report as StoredReport}
+use Rattle.air_rehearsal.proofs.Names.{ℕ, zero, suc, List, [], length, map, slice_get, Some, refl, AllByRecursion, flat_map, range_with_len, task_count, AreFresh, Cuts, IsFresh, LastsSo, cut_state, Ghosts, IsRun, HeadlineIn, IsAllowed, Event, IsSchedule, Schedule, World, first_world, Stage, last_stage, EndsSo, Tells, HasPlayed, counts_to, BenchPlayed, EndsWhole, StaysSo, first_stage, Bench, IsStage, IsUnlawful, Rehearsed, lines_before, until, ClientTask, CountOf, IsAcked, IsAckedAndKept, Report, all_tasks, last_world, tasks_of, IsStationOf, Station, client_at, place_of, the_server}
 use Rattle.air_rehearsal.proofs.CutsAtEnd.{tells_cuts}
 use Rattle.air_rehearsal.proofs.FirstBench.{all_at}
 use Rattle.air_rehearsal.proofs.WholeRehearsal.{RehearsalLaws, rehearsed}

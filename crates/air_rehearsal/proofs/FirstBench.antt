@@ -1,44 +1,8 @@
 -- Before the first event of a rehearsal.
-use Rattle.std.specs.Prelude.{◌≡◌, ℕ, zero, suc, ◌+◌, ◌<◌, ◌≤◌, List, [], ◌∷◌, length, map, slice_get, All, false}
-use Rattle.std.specs.Prelude.{Option, None, Some, IfSome, is_some, refl}
-use Rattle.std.specs.List.{range_with_len, sum_by}
-use Rattle.std.proofs.lemmas.List.Sums.{sum_by-cons}
+use Rattle.std.specs.Prelude.{◌≡◌, ◌+◌, ◌<◌, ◌≤◌, ◌∷◌}
 use Rattle.std.proofs.Common.{sym, ap, ◌∙◌, subst, arith}
-use Rattle.std.proofs.lemmas.List.Elements.{All-get_or}
-use Rattle.std.proofs.lemmas.Option.{get_or_from_slice_get, same_Some, slice_get_within}
-use Rattle.px_base.specs.CallSign.{CallSign}
-use Rattle.disk_model.specs.Cuts.{AreFresh, Cuts, IsFresh, LastsSo, Unarmed, UsesUp, cut_state}
-use Rattle.disk_model.specs.Disk.{IsTold}
-use Rattle.disk_model.specs.declared.disk.Disk.{Ghosts}
-use Rattle.ax25_link.specs.Window.{window_of}
-use Rattle.file_journal.proofs.Offered.{told_weaker}
-use Rattle.file_journal.specs.Calls.{images_now}
-use Rattle.file_journal.specs.Journal.{journal_of}
-use Rattle.file_journal.specs.Walk.{state}
-use Rattle.file_store.specs.State.{StandsFor as StandsForStore, standing_of, store_on}
-use Rattle.file_store.specs.Store.{Store, empty_store}
-use Rattle.ftl0_server.specs.Server.{new_server}
-use Rattle.ftl0_server.specs.ServerState.{IsServer, ServerState}
-use Rattle.air_attempt.specs.Party.{first_party}
-use Rattle.air_world.specs.Laws.{SoundLaw}
-use Rattle.air_world.specs.Schedule.{IsSchedule, Schedule}
-use Rattle.air_world.specs.World.{World, first_world, pacsat, store_blocks}
-use Rattle.air_rehearsal.specs.Opening.{OpensAll, OpensClient}
-use Rattle.air_rehearsal.specs.Chain.{Stage}
-use Rattle.air_rehearsal.specs.Counting.{Tells, no_counts}
-use Rattle.air_rehearsal.specs.Course.{HasPlayed, Path, counts_to}
-use Rattle.air_rehearsal.specs.Report.{cuts_of}
-use Rattle.air_rehearsal.specs.ServerEvents.{waiting_of}
-use Rattle.air_rehearsal.specs.declared.cuts.Cut.{Cut}
-use Rattle.air_rehearsal.specs.Played.{Opens}
-use Rattle.air_rehearsal.specs.Playing.{Bench, IsBench, IsStage, bench_of, client_count}
-use Rattle.air_rehearsal.specs.Rehearsed.{until}
-use Rattle.air_rehearsal.specs.ServerCalls.{IsStarted}
-use Rattle.air_rehearsal.specs.Standing.{StandsNow}
-use Rattle.air_rehearsal.specs.Stations.{IsStationOf, Station, client_at, place_of, stations_of, the_server}
-use Rattle.air_rehearsal.specs.Worlds.{IsSteady, PlayParties, PlaysParty, PlaysStations, asked_from}
-use Rattle.air_rehearsal.specs.declared.party.Party.{Party as StoredParty}
-use Rattle.air_rehearsal.specs.declared.stations.Stations.{Stations}
+use Rattle.file_store.specs.State.{StandsFor as StandsForStore}
+use Rattle.air_rehearsal.proofs.Names.{ℕ, zero, suc, List, [], length, map, slice_get, All, false, Option, None, Some, IfSome, is_some, refl, range_with_len, sum_by, sum_by-cons, All-get_or, get_or_from_slice_get, same_Some, slice_get_within, CallSign, AreFresh, Cuts, IsFresh, LastsSo, Unarmed, UsesUp, cut_state, IsTold, Ghosts, window_of, told_weaker, images_now, journal_of, state, standing_of, store_on, Store, empty_store, new_server, IsServer, ServerState, first_party, SoundLaw, IsSchedule, Schedule, World, first_world, pacsat, store_blocks, OpensAll, OpensClient, Stage, Tells, no_counts, HasPlayed, Path, counts_to, cuts_of, waiting_of, Cut, Opens, Bench, IsBench, IsStage, bench_of, client_count, until, IsStarted, StandsNow, IsStationOf, Station, client_at, place_of, stations_of, the_server, IsSteady, PlayParties, PlaysParty, PlaysStations, asked_from, Party as StoredParty, Stations}
 use Rattle.air_rehearsal.proofs.BenchLemmas.{played_at}
 use Rattle.air_rehearsal.proofs.CourseLemmas.{there}
 use Rattle.air_rehearsal.proofs.ServerGoes.{none_of}

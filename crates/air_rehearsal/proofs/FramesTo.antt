@@ -1,21 +1,7 @@
 -- Which frames of those that a server's places drain are for a caller: none, where no place has its connection.
 use Rattle.std.proofs.Common.{◌≡◌, ◌≢◌, List, [], ◌∷◌, ◌++◌, filter, refl, sym, ap, ap₂, ◌∙◌}
-use Rattle.std.specs.Prelude.{⊤}
-use Rattle.std.specs.List.{AllByRecursion}
-use Rattle.std.proofs.lemmas.Bool.{cond_both}
-use Rattle.std.proofs.lemmas.List.Elements.{filter-append}
-use Rattle.px_base.specs.CallSign.{CallSign}
-use Rattle.ax25_frames.specs.FrameText.{FrameValue}
-use Rattle.ax25_link.specs.Ends.{LinkEnd}
-use Rattle.ax25_link.specs.Sending.{Drains}
-use Rattle.ax25_link.specs.Stations.{IsFrameOf, Stations, stations_of}
-use Rattle.ax25_link.specs.Window.{IsWindow, Window}
-use Rattle.ax25_link.proofs.Offered.{stations_law}
-use Rattle.ftl0_session.specs.Uploads.Session.{is_same_call}
-use Rattle.ftl0_session.proofs.uploads.UploadRows.{same_call-decides}
-use Rattle.ftl0_server.specs.Connection.Connected.{caller_of}
-use Rattle.ftl0_server.specs.Slots.{Slot, connected, free, leaving}
-use Rattle.server_laws.specs.Places.{SlotDrains, SlotsDrain}
+use Rattle.ax25_link.specs.Stations.{Stations, stations_of}
+use Rattle.air_rehearsal.proofs.Names.{⊤, AllByRecursion, cond_both, filter-append, CallSign, FrameValue, LinkEnd, Drains, IsFrameOf, IsWindow, Window, stations_law, is_same_call, same_call-decides, caller_of, Slot, connected, free, leaving, SlotDrains, SlotsDrain}
 
 -- the frames to this station
 abbrev pub to_station : CallSign → List FrameValue → List FrameValue

@@ -1,30 +1,9 @@
 -- What is left of a client's disk where it took part in an event, however far that came.
-use Rattle.std.specs.Prelude.{◌≡◌, ◌⊎◌, ℕ, zero, suc, ◌<◌, List, ◌∷◌, length, slice_get, slice_set, Some, None}
-use Rattle.std.specs.Prelude.{Option, refl}
-use Rattle.std.specs.Option.{option_and_then}
+use Rattle.std.specs.Prelude.{◌≡◌, ◌⊎◌, ◌<◌, ◌∷◌}
 use Rattle.std.proofs.Common.{inl, inr, sym, ap, ◌∙◌, subst, arith}
-use Rattle.std.proofs.lemmas.Option.{same_Some}
-use Rattle.disk_model.specs.Cuts.{Cuts}
-use Rattle.disk_model.specs.declared.disk.Disk.{Ghosts}
 use Rattle.air_attempt.specs.Party.{Party}
-use Rattle.air_files.specs.Uploads.{upload_file}
-use Rattle.air_world.specs.Events.{ClientPart, ClientTakes, asking_file, next_upload}
-use Rattle.air_world.specs.Schedule.{Event, ask_upload, break_client}
-use Rattle.air_world.specs.World.{PartyAt, World}
-use Rattle.air_rehearsal.specs.Chain.{Stage}
-use Rattle.air_rehearsal.specs.Halfway.{LeavesAt, StopsApart, StopsBy, StopsCutting}
-use Rattle.air_rehearsal.specs.Halfway.{StopsEvent, StopsPart, TriesToStart, stage_of}
-use Rattle.air_rehearsal.specs.Playing.{client_count, waiting_in}
-use Rattle.air_rehearsal.specs.Seats.{Clients, ComesAlways, MayTake}
-use Rattle.air_rehearsal.specs.ServerEvents.{waiting_of}
-use Rattle.air_rehearsal.specs.Stations.{Role, Station, acts, client_at, place_of, role_of}
-use Rattle.air_rehearsal.specs.Stations.{the_server}
-use Rattle.air_rehearsal.specs.TakingPart.{IsPart, IsSeat, Seat}
-use Rattle.air_rehearsal.specs.declared.cuts.Cut.{Cut}
-use Rattle.air_rehearsal.specs.declared.part.Part.{Part}
 use Rattle.air_rehearsal.specs.declared.part.Part.TheVariants as stored
-use Rattle.air_rehearsal.specs.declared.party.Party.{Party as StoredParty}
-use Rattle.air_rehearsal.specs.declared.stations.Stations.{Stations}
+use Rattle.air_rehearsal.proofs.Names.{ℕ, zero, suc, List, length, slice_get, slice_set, Some, None, Option, refl, option_and_then, same_Some, Cuts, Ghosts, upload_file, ClientPart, ClientTakes, asking_file, next_upload, Event, ask_upload, break_client, PartyAt, World, Stage, LeavesAt, StopsApart, StopsBy, StopsCutting, StopsEvent, StopsPart, TriesToStart, stage_of, client_count, waiting_in, Clients, ComesAlways, MayTake, waiting_of, Role, Station, acts, client_at, place_of, role_of, the_server, IsPart, IsSeat, Seat, Cut, Part, Party as StoredParty, Stations}
 use Rattle.air_rehearsal.proofs.BenchLemmas.{set_count}
 use Rattle.air_rehearsal.proofs.ClientFacts.{clients_event}
 use Rattle.air_rehearsal.proofs.ClientGoes.{carries_out, set_other, within_of}

@@ -1,13 +1,7 @@
 -- What is left of a disk where power was to be cut.
-use Rattle.std.specs.Prelude.{◌≡◌, ◌⊎◌, ℕ, ◌-◌, Some}
+use Rattle.std.specs.Prelude.{◌≡◌, ◌⊎◌, ◌-◌}
 use Rattle.std.proofs.Common.{inl, inr, sym, subst}
-use Rattle.disk_model.specs.Cuts.{ArmsOnly, Cuts}
-use Rattle.disk_model.specs.declared.disk.Disk.{Ghosts}
-use Rattle.air_world.specs.Events.{ClientPart}
-use Rattle.air_rehearsal.specs.Halfway.{FailsToCut, StopsCutPart, StopsCutting, TriesToStart}
-use Rattle.air_rehearsal.specs.Stations.{Station, client_at}
-use Rattle.air_rehearsal.specs.Strikes.{Strikes}
-use Rattle.air_rehearsal.specs.TakingPart.{CarriesPart}
+use Rattle.air_rehearsal.proofs.Names.{ℕ, Some, ArmsOnly, Cuts, Ghosts, ClientPart, FailsToCut, StopsCutPart, StopsCutting, TriesToStart, Station, client_at, Strikes, CarriesPart}
 
 module _ {B : Type 0} (g : Ghosts B) (cuts : Cuts B) (IsOne : Station → Type 0) (lost : B) where
   -- no memory was found for the cut

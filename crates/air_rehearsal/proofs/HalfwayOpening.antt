@@ -1,19 +1,7 @@
 -- What is left of the disks where memory was wanting while the stations were made.
-use Rattle.std.specs.Prelude.{◌≡◌, ◌⊎◌, ℕ, zero, suc, ◌<◌, ◌≤◌, List, [], ◌∷◌, length, slice_get, slice_set, Some, refl}
+use Rattle.std.specs.Prelude.{◌≡◌, ◌⊎◌, ◌<◌, ◌≤◌, ◌∷◌}
 use Rattle.std.proofs.Common.{inl, inr, sym, ap, ◌∙◌, subst, arith}
-use Rattle.std.proofs.lemmas.Bool.{cases_lt}
-use Rattle.std.proofs.lemmas.Option.{same_Some}
-use Rattle.px_base.specs.CallSign.{CallSign}
-use Rattle.disk_model.specs.Cuts.{AreFresh, Cuts, IsFresh, LastsSo, cut_state}
-use Rattle.disk_model.specs.declared.disk.Disk.{Ghosts}
-use Rattle.air_world.specs.Schedule.{Schedule}
-use Rattle.air_rehearsal.specs.Halfway.{StopsOpening, TriesToOpen}
-use Rattle.air_rehearsal.specs.Opening.{OpensAll, OpensFirst}
-use Rattle.air_rehearsal.specs.Played.{Opens, first_stage}
-use Rattle.air_rehearsal.specs.Rehearsed.{HalfStep, StopsAtOpening}
-use Rattle.air_rehearsal.specs.Stations.{IsStationOf, Station, client_at, place_of, the_server}
-use Rattle.air_rehearsal.specs.declared.party.Party.{Party as StoredParty}
-use Rattle.air_rehearsal.specs.declared.stations.Stations.{Stations}
+use Rattle.air_rehearsal.proofs.Names.{ℕ, zero, suc, List, [], length, slice_get, slice_set, Some, refl, cases_lt, same_Some, CallSign, AreFresh, Cuts, IsFresh, LastsSo, cut_state, Ghosts, Schedule, StopsOpening, TriesToOpen, OpensAll, OpensFirst, Opens, first_stage, HalfStep, StopsAtOpening, IsStationOf, Station, client_at, place_of, the_server, Party as StoredParty, Stations}
 use Rattle.air_rehearsal.proofs.BenchLemmas.{set_count}
 use Rattle.air_rehearsal.proofs.ClientGoes.{set_other}
 use Rattle.air_rehearsal.proofs.CourseLemmas.{there}

@@ -1,22 +1,8 @@
 -- What is left of the bench where memory was wanting in an event.
-use Rattle.std.specs.Prelude.{◌≡◌, ◌⊎◌, ℕ, suc, ◌≤◌, List, [], ◌∷◌, slice_get, Some, refl}
+use Rattle.std.specs.Prelude.{◌≡◌, ◌⊎◌, ◌≤◌, ◌∷◌}
 use Rattle.std.proofs.Common.{inl, inr, sym, subst, arith}
-use Rattle.disk_model.specs.Cuts.{Cuts, LastsSo, cut_state}
-use Rattle.disk_model.specs.declared.disk.Disk.{Ghosts}
-use Rattle.air_world.specs.Laws.{StoresLaw}
-use Rattle.air_world.specs.Lawful.{IsAllowed}
-use Rattle.air_world.specs.Schedule.{Event}
-use Rattle.air_world.specs.World.{World}
-use Rattle.air_rehearsal.specs.Chain.{Stage}
-use Rattle.air_rehearsal.specs.Halfway.{StopsBy, StopsEvent, TriesToStart, stage_of}
-use Rattle.air_rehearsal.specs.Playing.{Bench, IsBench, IsStage, waiting_in}
-use Rattle.air_rehearsal.specs.Rehearsed.{EndsHalf, StandsAmid}
-use Rattle.air_rehearsal.specs.Seats.{CountsEvent}
-use Rattle.air_rehearsal.specs.ServerEvents.{waiting_of}
-use Rattle.air_rehearsal.specs.Standing.{StandsNow}
-use Rattle.air_rehearsal.specs.Stations.{Station, client_at, place_of, role_of, the_server}
 use Rattle.air_rehearsal.specs.declared.report.Report.{Report as StoredReport}
-use Rattle.air_rehearsal.specs.declared.stations.Stations.{Stations}
+use Rattle.air_rehearsal.proofs.Names.{ℕ, suc, List, [], slice_get, Some, refl, Cuts, LastsSo, cut_state, Ghosts, StoresLaw, IsAllowed, Event, World, Stage, StopsBy, StopsEvent, TriesToStart, stage_of, Bench, IsBench, IsStage, waiting_in, EndsHalf, StandsAmid, CountsEvent, waiting_of, StandsNow, Station, client_at, place_of, role_of, the_server, Stations}
 use Rattle.air_rehearsal.proofs.AlikeAmid.{client_amid_alike, server_amid_alike}
 use Rattle.air_rehearsal.proofs.ClientGoes.{within_of}
 use Rattle.air_rehearsal.proofs.CourseLemmas.{there}

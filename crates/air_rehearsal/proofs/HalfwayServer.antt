@@ -1,39 +1,7 @@
 -- What is left of the server's disk where an event of it was stopped, or was to be cut.
-use Rattle.std.specs.Prelude.{◌≡◌, ◌⊎◌, ℕ, zero, suc, ◌-◌, ◌<◌, List, [], ◌∷◌, ◌++◌, slice_get, Option, None, Some}
-use Rattle.std.specs.Prelude.{Result, Ok, Err, OnErr, refl, ⊤}
+use Rattle.std.specs.Prelude.{◌≡◌, ◌⊎◌, ◌-◌, ◌<◌, ◌∷◌, ◌++◌}
 use Rattle.std.proofs.Common.{inl, inr, sym, ap, ◌∙◌, subst, arith}
-use Rattle.std.proofs.lemmas.Option.{same_Some}
-use Rattle.disk_model.specs.AtDisk.{at}
-use Rattle.disk_model.specs.Cuts.{ArmsOnly, Cuts, LastsSo, cut_state}
-use Rattle.disk_model.specs.declared.disk.Disk.{Ghosts}
-use Rattle.disk_model.specs.declared.disk.DiskFault.{DiskFault}
-use Rattle.file_entries.specs.Command.{Command}
-use Rattle.file_journal.specs.Calls.{Leaves, TellsAlike}
-use Rattle.file_store.specs.OnDisk.{MakesFirst}
-use Rattle.file_store.specs.State.{store_on}
-use Rattle.file_store.specs.Store.{Store}
-use Rattle.file_store.proofs.Offered.{cuts-among-all, on_same}
-use Rattle.ftl0_session.specs.Uploads.Failures.{Failure, failed_reads, failed_write}
-use Rattle.ftl0_server.specs.Calls.{Hears}
-use Rattle.ftl0_server.specs.Server.{Server, ServerHappened}
-use Rattle.ftl0_server.specs.ServerState.{ServerState}
-use Rattle.ftl0_server.specs.ServerStep.{happening}
-use Rattle.node.specs.Events.{NodeEvent}
-use Rattle.server_laws.specs.Misses.{FrontOfEventLaw, MissesLaw, begun_in}
-use Rattle.air_world.specs.Cuts.{server_commands}
-use Rattle.air_world.specs.Lawful.{IsAllowed}
-use Rattle.air_world.specs.Schedule.{Event}
-use Rattle.air_world.specs.World.{World, next_moment}
-use Rattle.air_rehearsal.specs.Chain.{CarriesOut}
-use Rattle.air_rehearsal.specs.Halfway.{StopsBy, StopsCutting, StopsEvent, WhereRead, stage_of}
-use Rattle.air_rehearsal.specs.Playing.{Bench, IsBench, client_count, waiting_in}
-use Rattle.air_rehearsal.specs.Seats.{CountsCut}
-use Rattle.air_rehearsal.specs.ServerCalls.{IsTaken}
-use Rattle.air_rehearsal.specs.ServerEvents.{AwaitsServer, CanCount, CountsOn, Serving, server_stage, serving}
-use Rattle.air_rehearsal.specs.ServerEvents.{waiting_of}
-use Rattle.air_rehearsal.specs.Stations.{Role, Station, acts, client_at, place_of, role_of, the_server}
-use Rattle.air_rehearsal.specs.declared.cuts.Cut.{Cut}
-use Rattle.air_rehearsal.specs.declared.stations.Stations.{Stations}
+use Rattle.air_rehearsal.proofs.Names.{ℕ, zero, suc, List, [], slice_get, Option, None, Some, Result, Ok, Err, OnErr, refl, ⊤, same_Some, at, ArmsOnly, Cuts, LastsSo, cut_state, Ghosts, DiskFault, Command, Leaves, TellsAlike, MakesFirst, store_on, Store, cuts-among-all, on_same, Failure, failed_reads, failed_write, Hears, Server, ServerHappened, ServerState, happening, NodeEvent, FrontOfEventLaw, MissesLaw, begun_in, server_commands, IsAllowed, Event, World, next_moment, CarriesOut, StopsBy, StopsCutting, StopsEvent, WhereRead, stage_of, Bench, IsBench, client_count, waiting_in, CountsCut, IsTaken, AwaitsServer, CanCount, CountsOn, Serving, server_stage, serving, waiting_of, Role, Station, acts, client_at, place_of, role_of, the_server, Cut, Stations}
 use Rattle.air_rehearsal.proofs.ServingDisk.{leaves-more, missed-none, no-reads, no-reads-at-write}
 use Rattle.air_rehearsal.proofs.ServingWorld.{carried}
 

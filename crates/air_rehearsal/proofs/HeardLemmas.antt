@@ -1,47 +1,15 @@
 -- What a client hears of what the server sent, and what that makes of it.
 use Rattle.std.proofs.Common.{inl, ◌≡◌, ◌==◌, ◌&&◌, ℕ, zero, suc, List, [], ◌∷◌, length, refl, sym, ap, ◌∙◌, subst}
 use Rattle.std.proofs.Common.{Option, Some, Result, Ok, Err, true, Bool, arith}
-use Rattle.std.proofs.lemmas.List.{append-nil}
-use Rattle.std.specs.Prelude.{◌+◌, ◌<◌, slice_get, IfSome, IsErrOf, OnOk, ⊤}
-use Rattle.std.specs.Str.{bytes_eq}
-use Rattle.std.proofs.lemmas.Bool.Decides.{Decides-eqb}
-use Rattle.std.proofs.lemmas.Option.{same_Some}
-use Rattle.std.proofs.lemmas.Slice.Eq.{bytes_eq-Decides}
-use Rattle.disk_model.specs.Cuts.{Failed}
-use Rattle.disk_model.specs.declared.disk.Disk.{Ghosts}
-use Rattle.disk_model.specs.declared.halt.Halt.{Halt}
+use Rattle.std.specs.Prelude.{◌+◌, ◌<◌}
 use Rattle.disk_model.specs.declared.halt.Halt.TheVariants as halt
-use Rattle.file_journal.specs.Calls.{EachImage}
-use Rattle.file_journal.specs.Calls.{Leaves}
-use Rattle.file_journal.specs.Kept.{alone}
-use Rattle.file_journal.proofs.Offered.{cut_makes, first_all, room_always, told_weaker}
-use Rattle.px_base.specs.CallSign.{CallSign}
-use Rattle.ax25_frames.specs.FrameText.{FrameValue}
-use Rattle.ax25_link.specs.Air.{IsAt, Transmission, delivering}
-use Rattle.node.specs.Events.{IsFor}
-use Rattle.client_notes.proofs.Offered.{one-half}
-use Rattle.client_notes.specs.Command.{NotesCommand}
-use Rattle.client_notes.specs.Notes.{Lists}
 use Rattle.client_notes.specs.Laws.{after_all}
-use Rattle.client_notes.specs.Records.{notes_form}
 use Rattle.client_notes.specs.Several as notes
-use Rattle.client_notes.specs.State.{StandsFor}
-use Rattle.ftl0_client.specs.Attempt.AttemptState.{PutsBy}
-use Rattle.ftl0_client.specs.Calls.{Hears, HearsBy}
+use Rattle.ftl0_client.specs.Calls.{Hears}
 use Rattle.ftl0_client.specs.Client as client
-use Rattle.ftl0_client.specs.Client.{Client, client_hearing}
-use Rattle.ftl0_client.specs.ClientState.{ClientState, IsClient}
 use Rattle.ftl0_client.proofs.attempt.HearLemmas.{client-stopped}
-use Rattle.air_attempt.specs.Attempt.{Attempt, IsAttempt, IsFromTo}
-use Rattle.air_attempt.specs.Party.{to_client_delivered, with_newest}
-use Rattle.air_attempt.proofs.Offered.{all-at}
-use Rattle.air_world.specs.Events.{ClientPart, DeliversToClient, part_with, with_current}
-use Rattle.air_rehearsal.specs.Lanes.{HasLanes, IsLane, lanes_by, lanes_of}
-use Rattle.air_rehearsal.specs.PartCalls.{BeginsPart, TouchesDisk}
-use Rattle.air_rehearsal.specs.Standing.{least_done}
-use Rattle.air_rehearsal.specs.TakingPart.{IsSeat, Seat}
 use Rattle.air_rehearsal.specs.declared.attempt.Attempt.{Attempt as StoredAttempt}
-use Rattle.air_rehearsal.specs.declared.party.Party.{Party as StoredParty}
+use Rattle.air_rehearsal.proofs.Names.{append-nil, slice_get, IfSome, IsErrOf, OnOk, ⊤, bytes_eq, Decides-eqb, same_Some, bytes_eq-Decides, Failed, Ghosts, Halt, EachImage, Leaves, alone, cut_makes, first_all, room_always, told_weaker, CallSign, FrameValue, IsAt, Transmission, delivering, IsFor, one-half, NotesCommand, Lists, notes_form, StandsFor, PutsBy, HearsBy, Client, client_hearing, ClientState, IsClient, Attempt, IsAttempt, IsFromTo, to_client_delivered, with_newest, all-at, ClientPart, DeliversToClient, part_with, with_current, HasLanes, IsLane, lanes_by, lanes_of, BeginsPart, TouchesDisk, least_done, IsSeat, Seat, Party as StoredParty}
 
 -- equal calls are found equal
 pub same_call : (one other : CallSign) → one ≡ other

@@ -2,37 +2,10 @@
 -- other client's.
 use Rattle.std.proofs.Common.{◌≡◌, ◌≢◌, ℕ, zero, suc, List, [], ◌∷◌, Bool, true, false, Option, None, Some, refl}
 use Rattle.std.proofs.Common.{sym, ap, ap₂, subst, ◌∙◌, true≢false}
-use Rattle.std.specs.Prelude.{if◌then◌else◌, slice_get}
-use Rattle.std.specs.List.{AllByRecursion}
-use Rattle.std.specs.Option.{option_map, option_or}
-use Rattle.std.proofs.lemmas.Bool.{cond_both}
-use Rattle.std.proofs.lemmas.Option.{same_Some, slice_get-map, slice_get_within}
-use Rattle.ax25_link.specs.Air.{IsAt, Transmission, control_of}
-use Rattle.ax25_link.specs.Rows.{is_call}
-use Rattle.ax25_link.proofs.Offered.{slice_get-set_other, slice_get-set_same}
-use Rattle.node.specs.Events.{NodeEvent, hears}
-use Rattle.ftl0_session.specs.Uploads.Session.{is_same_call}
-use Rattle.ftl0_session.proofs.uploads.UploadRows.{same_call-decides}
-use Rattle.ftl0_server.specs.Connection.Connected.{Connected}
-use Rattle.ftl0_server.specs.Slots.{Slot, all_freed, connected, place_of}
-use Rattle.server_laws.specs.Places.{StepLaw}
-use Rattle.air_attempt.specs.Attempt.{Attempt, IsAnsweredBy, IsAttempt, IsEndOf, IsFromTo, IsOneCall}
-use Rattle.air_attempt.specs.Laws.{AreAttempts, IsSeatedIn}
-use Rattle.air_attempt.specs.Party.{Party, all_over, newest, newest_side, server_sends, to_server_delivered}
-use Rattle.air_attempt.specs.Party.{with_newest}
-use Rattle.air_attempt.specs.Sides.{ServerSide}
-use Rattle.air_attempt.specs.Transfers.{ServerDid, after_hearing, begun, connection_of, heard_by}
-use Rattle.air_attempt.proofs.Offered.{all-at, place-of-not, some-at}
-use Rattle.air_world.specs.Cuts.{ServerDoes}
-use Rattle.air_world.specs.Events.{DeliversToServer, with_current}
-use Rattle.air_world.specs.Lawful.{IsAllowed}
-use Rattle.air_world.specs.Laws.{SoundLaw}
-use Rattle.air_world.specs.Schedule.{to_server}
-use Rattle.air_world.specs.Sound.{IsSideAt, Sound}
-use Rattle.air_world.specs.Step.{ServerGoes, party_heard}
-use Rattle.air_world.specs.World.{PartyAt, World, next_moment, with_party}
-use Rattle.air_rehearsal.specs.LaneLaws.{HearingLanesLaw}
-use Rattle.air_rehearsal.specs.Lanes.{lanes_of, replying_each}
+use Rattle.std.specs.Prelude.{if◌then◌else◌}
+use Rattle.ftl0_server.specs.Slots.{place_of}
+use Rattle.air_attempt.specs.Party.{Party}
+use Rattle.air_rehearsal.proofs.Names.{slice_get, AllByRecursion, option_map, option_or, cond_both, same_Some, slice_get-map, slice_get_within, IsAt, Transmission, control_of, is_call, slice_get-set_other, slice_get-set_same, NodeEvent, hears, is_same_call, same_call-decides, Connected, Slot, all_freed, connected, StepLaw, Attempt, IsAnsweredBy, IsAttempt, IsEndOf, IsFromTo, IsOneCall, AreAttempts, IsSeatedIn, all_over, newest, newest_side, server_sends, to_server_delivered, with_newest, ServerSide, ServerDid, after_hearing, begun, connection_of, heard_by, all-at, place-of-not, some-at, ServerDoes, DeliversToServer, with_current, IsAllowed, SoundLaw, to_server, IsSideAt, Sound, ServerGoes, party_heard, PartyAt, World, next_moment, with_party, HearingLanesLaw, lanes_of, replying_each}
 use Rattle.air_rehearsal.proofs.AnswersCall.{answers-ua}
 use Rattle.air_rehearsal.proofs.CallersSeat.{freed-seat}
 use Rattle.air_rehearsal.proofs.SaidLanes.{replies}

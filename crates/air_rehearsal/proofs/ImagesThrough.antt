@@ -1,16 +1,8 @@
 -- What a crash leaves of a station's disk, from each stage on.
-use Rattle.std.specs.Prelude.{◌≡◌, ◌⊎◌, ℕ, List, [], ◌∷◌, true, false, Option, None, Some, IfSome, refl}
-use Rattle.std.specs.List.{AllByRecursion}
+use Rattle.std.specs.Prelude.{◌≡◌, ◌⊎◌, ◌∷◌}
 use Rattle.std.proofs.Common.{inl, inr, sym, ◌∙◌, subst, arith}
-use Rattle.disk_model.specs.Cuts.{Cuts}
-use Rattle.disk_model.specs.Disk.{IsTold}
-use Rattle.disk_model.specs.Moments.{LeavesOnly}
-use Rattle.disk_model.specs.declared.disk.Disk.{Ghosts}
-use Rattle.air_world.specs.Schedule.{Event}
-use Rattle.air_world.specs.World.{World}
-use Rattle.air_rehearsal.specs.Chain.{CarriesOut, Follow, IsCutOff, Stage, StartsAgain, StepBy, last_stage}
-use Rattle.air_rehearsal.specs.Standing.{StandsAlike, StandsDuring, StandsFor, StandsNow}
-use Rattle.air_rehearsal.specs.Stations.{Role, Station, acts, breaks_off, looks_on, role_of, will_be_cut}
+use Rattle.air_rehearsal.specs.Standing.{StandsFor}
+use Rattle.air_rehearsal.proofs.Names.{ℕ, List, [], true, false, Option, None, Some, IfSome, refl, AllByRecursion, Cuts, IsTold, LeavesOnly, Ghosts, Event, World, CarriesOut, Follow, IsCutOff, Stage, StartsAgain, StepBy, last_stage, StandsAlike, StandsDuring, StandsNow, Role, Station, acts, breaks_off, looks_on, role_of, will_be_cut}
 
 -- The octets stand for what the station keeps in one of these worlds, or in one of them after the first of the commands
 -- of its event.

@@ -1,30 +1,13 @@
 -- The file of a task that was acknowledged: an upload without fault, which the server's store keeps.
 use Rattle.std.proofs.Common.{◌≡◌, ℕ, zero, suc, ◌+◌, true, List, [], ◌∷◌, length, Option, None, Some, refl, ap, sym}
 use Rattle.std.proofs.Common.{◌++◌, arith, take, subst, ◌∙◌}
-use Rattle.std.proofs.lemmas.Grind.{common_steps}
-use Rattle.std.specs.List.{AllByRecursion, slice_get}
-use Rattle.std.specs.Option.{option_and_then, option_map}
-use Rattle.std.proofs.lemmas.Option.{same_Some}
-use Rattle.px_base.specs.CallSign.{CallSign}
-use Rattle.pfh_items.specs.Faults.{fault_code}
-use Rattle.file_store.specs.EntriesInfo.{Info}
+use Rattle.std.specs.List.{slice_get}
 use Rattle.file_store.specs.Info.{info_of, is_complete}
 use Rattle.file_store.specs.Like.{IsStoreLike}
-use Rattle.file_store.specs.Store.{Entry, Holding, Store, entry_of, octets_at, octets_of}
-use Rattle.file_store.proofs.Offered.{like_back, like_entry, like_is_complete, like_octets_length}
-use Rattle.client_notes.specs.Answers.{noted_as, noted_at, noted_by}
-use Rattle.client_notes.specs.Notes.{Lists, Task, task_of}
 use Rattle.client_notes.specs.declared.answers.Noted.TheVariants as noted
-use Rattle.client_notes.specs.declared.progress.Progress.{Progress}
 use Rattle.client_notes.specs.declared.progress.Progress.TheVariants as progress
-use Rattle.air_attempt.specs.Party.{Asked, IsFileOf, Party, upload_of}
-use Rattle.air_files.specs.Kept.{IsKept}
-use Rattle.air_files.specs.Uploads.{IsGoodFile}
-use Rattle.air_world.specs.Sound.{Sound}
-use Rattle.air_world.specs.World.{World}
-use Rattle.air_rehearsal.specs.Ending.{IsStampedFor, IsUpload}
-use Rattle.air_rehearsal.specs.Worlds.{PlaysStations}
-use Rattle.air_rehearsal.specs.declared.stations.Stations.{Stations}
+use Rattle.air_attempt.specs.Party.{Party}
+use Rattle.air_rehearsal.proofs.Names.{common_steps, AllByRecursion, option_and_then, option_map, same_Some, CallSign, fault_code, Info, Entry, Holding, Store, entry_of, octets_at, octets_of, like_back, like_entry, like_is_complete, like_octets_length, noted_as, noted_at, noted_by, Lists, Task, task_of, Progress, Asked, IsFileOf, upload_of, IsKept, IsGoodFile, Sound, World, IsStampedFor, IsUpload, PlaysStations, Stations}
 use Rattle.air_rehearsal.proofs.PartiesLemmas.{upload-at}
 
 each-of : {X : Type 0} (P : X → Type 0) (xs : List X) → AllByRecursion P xs → (place : ℕ) (x : X)

@@ -1,24 +1,12 @@
 -- What a lane holds, frame by frame, and which of its frames may be delivered.
 use Rattle.std.proofs.Common.{◌≡◌, ℕ, zero, suc, ◌+◌, ◌≤◌, ◌-◌, List, [], ◌∷◌, ◌++◌, length, drop, Bool, true, false}
 use Rattle.std.proofs.Common.{not, ◌&&◌, Some, None, refl, sym, subst, inl, inr, ◌∙◌, arith}
-use Rattle.std.specs.List.{list_any, slice_get, slice_set}
-use Rattle.std.specs.Prelude.{◌↔◌, IsTrue}
-use Rattle.std.proofs.lemmas.Bool.{and_parts, both_ways, not-true, not_from_false, or_cases, or_parts}
-use Rattle.std.proofs.lemmas.Option.{slice_get_within}
-use Rattle.std.proofs.lemmas.Slice.Zip.{AllZip-long, all_zipped_more}
-use Rattle.ax25_frames.specs.FrameText.{FrameText}
-use Rattle.ax25_frames.specs.declared.control.Control.{Control}
-use Rattle.ax25_frames.specs.declared.control.Control.TheVariants.{Disc, Dm, Frmr, I, Rej, Rnr, Rr, Sabm, Ua, Ui}
-use Rattle.ax25_link.proofs.Offered.{slice_get-set_same}
-use Rattle.ax25_link.specs.Air.{IsAt, NoneLater, Transmission, control_of, delivering}
+use Rattle.std.specs.List.{slice_get, slice_set}
+use Rattle.std.specs.Prelude.{◌↔◌}
 use Rattle.ax25_link.specs.Air.{is_numbered as is_numbered_control}
-use Rattle.ax25_link.specs.Rows.{is_call}
-use Rattle.ax25_link.specs.Window.{Window, window_of}
-use Rattle.air_rehearsal.specs.LaneCalls.{MayDeliver, is_numbered, overtakes}
-use Rattle.air_rehearsal.specs.Lanes.{AreSentAs, IsSentAs, sort_of}
-use Rattle.air_rehearsal.specs.declared.lane.Sent.{Sent}
 use Rattle.air_rehearsal.specs.declared.lane.Sort.{Sort}
 use Rattle.air_rehearsal.specs.declared.lane.Sort.TheVariants as sort
+use Rattle.air_rehearsal.proofs.Names.{list_any, IsTrue, and_parts, both_ways, not-true, not_from_false, or_cases, or_parts, slice_get_within, AllZip-long, all_zipped_more, FrameText, Control, Disc, Dm, Frmr, I, Rej, Rnr, Rr, Sabm, Ua, Ui, slice_get-set_same, IsAt, NoneLater, Transmission, control_of, delivering, is_call, Window, window_of, MayDeliver, is_numbered, overtakes, AreSentAs, IsSentAs, sort_of, Sent}
 use Rattle.air_rehearsal.proofs.PairLemmas.{pair-at, pair-left, pair-right, pair-set}
 
 -- the transmission is still there once it is delivered

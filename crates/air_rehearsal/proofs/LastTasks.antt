@@ -1,29 +1,14 @@
 -- The last task of a kind among a client's notes, found from the last one on.
 use Rattle.std.proofs.Common.{◌≡◌, ℕ, ◌+◌, ◌-◌, ◌<◌, ◌≤◌, ◌==◌, length, get_or, reverse, Bool, true, false}
 use Rattle.std.proofs.Common.{Option, None, Some, inl, inr, refl, sym, ap, subst, ◌∙◌, arith, ltb}
-use Rattle.std.specs.List.{find, position, position_or_len, slice_get}
-use Rattle.std.specs.Option.{option_map}
-use Rattle.std.proofs.lemmas.Bool.{both_ways, cases_lt, cond-false, cond-true, le-ltb, lt-ltb, ne_eqb}
-use Rattle.std.proofs.lemmas.List.{get_or-reverse, length-reverse}
+use Rattle.std.specs.List.{slice_get}
 use Rattle.std.proofs.lemmas.List.Folds.{find_at}
-use Rattle.std.proofs.lemmas.List.Sums.{fails_before_first, passes_at_first}
-use Rattle.std.proofs.lemmas.Option.{get_or_from_slice_get, none-some, same_Some, slice_get-get_or, slice_get_cases}
-use Rattle.std.proofs.lemmas.Option.{slice_get_past, slice_get_within}
-use Rattle.client_notes.specs.Answers.{noted_as, noted_at, noted_by}
-use Rattle.client_notes.specs.Command.{is_going}
-use Rattle.client_notes.specs.Notes.{Lists, Task, task_count, task_of}
 use Rattle.client_notes.specs.declared.answers.Noted.{Noted}
 use Rattle.client_notes.specs.declared.answers.Noted.TheVariants as noted
-use Rattle.client_notes.specs.declared.progress.Progress.{Progress}
 use Rattle.client_notes.specs.declared.progress.Progress.TheVariants as progress
 use Rattle.air_attempt.specs.Party.{Party}
 use Rattle.air_files.proofs.Offered.{later-number}
-use Rattle.air_world.specs.Lawful.{last_unfinished}
-use Rattle.air_world.specs.Sound.{Sound}
-use Rattle.air_world.specs.World.{PartyAt, World}
-use Rattle.air_rehearsal.specs.Drawn.{is_acked, last_acked}
-use Rattle.air_rehearsal.specs.NotedTasks.{number_if_acked, number_if_going}
-use Rattle.air_rehearsal.specs.PartyCalls.{IsLastGoing}
+use Rattle.air_rehearsal.proofs.Names.{find, position, position_or_len, option_map, both_ways, cases_lt, cond-false, cond-true, le-ltb, lt-ltb, ne_eqb, get_or-reverse, length-reverse, fails_before_first, passes_at_first, get_or_from_slice_get, none-some, same_Some, slice_get-get_or, slice_get_cases, slice_get_past, slice_get_within, noted_as, noted_at, noted_by, is_going, Lists, Task, task_count, task_of, Progress, last_unfinished, Sound, PartyAt, World, is_acked, last_acked, number_if_acked, number_if_going, IsLastGoing}
 
 -- so many of the last tasks don't pass the test
 abbrev pub NonePasses : (Progress → Bool) → Lists → ℕ → Type 0

@@ -84,3 +84,4 @@ mod WholePlay
 mod WholeRehearsal
 mod WishLemmas
 pub mod ReadyLemmas
+mod Names

@@ -1,16 +1,7 @@
 -- Reads of a store, one after another.
-use Rattle.std.proofs.lemmas.Grind.{common_steps}
 use Rattle.std.proofs.Common.{◌≡◌, refl, ap, ◌∙◌, arith}
-use Rattle.disk_model.specs.declared.disk.Disk.{Ghosts}
-use Rattle.file_journal.specs.Calls.{ChangesReads}
 use Rattle.file_store.specs.Reads.{OnlyReads}
-use Rattle.file_store.specs.State.{IsKnown, IsReady, StoreState, store_on}
-use Rattle.file_store.proofs.Offered.{known_on, on_same}
-use Rattle.file_journal.proofs.Offered.{alike_same, changes_none}
-use Rattle.air_rehearsal.specs.Ending.{IsAtEnd, LooksOnly}
-use Rattle.air_rehearsal.specs.TakingPart.{Seat}
-use Rattle.air_rehearsal.specs.declared.party.Party.{Party}
-use Rattle.air_rehearsal.specs.declared.stations.Stations.{Stations}
+use Rattle.air_rehearsal.proofs.Names.{common_steps, Ghosts, ChangesReads, IsKnown, IsReady, StoreState, store_on, known_on, on_same, alike_same, changes_none, IsAtEnd, LooksOnly, Seat, Party, Stations}
 
 module _ {D : Type 0} (g : Ghosts D) where
   -- no read

@@ -1,29 +1,10 @@
 -- What is told of the client of a number is that of the world's.
-use Rattle.std.specs.Prelude.{◌≡◌, ◌↔◌, ℕ, zero, suc, ◌%◌, ◌^◌, ◌≤◌, List, length, slice_get, Bool, true, false, ◌&&◌, ◌||◌}
-use Rattle.std.specs.Prelude.{not, IsTrue, Option, None, Some, refl}
-use Rattle.std.specs.Option.{option_and_then, option_map_or}
+use Rattle.std.specs.Prelude.{◌≡◌, ◌↔◌, ◌%◌, ◌^◌, ◌≤◌, ◌&&◌, ◌||◌}
 use Rattle.std.proofs.Common.{sym, ap, subst, arith, ◌∙◌}
-use Rattle.std.proofs.lemmas.Option.{none-some, slice_get_within}
-use Rattle.disk_model.specs.declared.disk.Disk.{Ghosts}
-use Rattle.ax25_link.specs.Air.{Transmission}
 use Rattle.ax25_link.specs.Kept.{is_pending, is_there}
 use Rattle.ax25_link.specs.Timer.{is_down}
-use Rattle.ax25_link.specs.Window.{Window}
-use Rattle.ax25_link.specs.declared.state.LinkState.{LinkState}
-use Rattle.ax25_link.specs.declared.state.LinkState.TheVariants.{Calling, Down, Ending, Up}
-use Rattle.ftl0_client.specs.Attempt.AttemptState.{AttemptState}
-use Rattle.ftl0_client.specs.Attempt.Attempted.{Attempted}
-use Rattle.ftl0_client.specs.ClientState.{IsAttemptOf, attempt_closed, attempt_pending, client_closed}
-use Rattle.air_attempt.specs.Attempt.{Attempt}
-use Rattle.air_attempt.specs.Party.{Party, newest}
-use Rattle.air_world.specs.World.{World}
-use Rattle.air_rehearsal.specs.Generator.{IsClosed, IsClosedBy, IsDown, attempts_of, party_of, sent_of}
-use Rattle.air_rehearsal.specs.Lanes.{IsLane, lanes_by, lanes_of}
-use Rattle.air_rehearsal.specs.Numbers.{numbered}
-use Rattle.air_rehearsal.specs.Ready.{AreReady, IsReadyParty}
-use Rattle.air_rehearsal.specs.Worlds.{PlaysParty, PlaysStations}
-use Rattle.air_rehearsal.specs.declared.party.Party.{Party as StoredParty}
-use Rattle.air_rehearsal.specs.declared.stations.Stations.{Stations}
+use Rattle.air_attempt.specs.Party.{Party}
+use Rattle.air_rehearsal.proofs.Names.{ℕ, zero, suc, List, length, slice_get, Bool, true, false, not, IsTrue, Option, None, Some, refl, option_and_then, option_map_or, none-some, slice_get_within, Ghosts, Transmission, Window, LinkState, Calling, Down, Ending, Up, AttemptState, Attempted, IsAttemptOf, attempt_closed, attempt_pending, client_closed, Attempt, newest, World, IsClosed, IsClosedBy, IsDown, attempts_of, party_of, sent_of, IsLane, lanes_by, lanes_of, numbered, AreReady, IsReadyParty, PlaysParty, PlaysStations, Party as StoredParty, Stations}
 use Rattle.air_rehearsal.proofs.AllowedLemmas.{numbered-some}
 use Rattle.air_rehearsal.proofs.CourseLemmas.{there}
 use Rattle.air_rehearsal.proofs.PartiesLemmas.{party-of, stored-of}

@@ -1,9 +1,7 @@
 -- The worlds decide each number of a report.
-use Rattle.std.specs.Prelude.{◌≡◌, ℕ, suc, List, [], ◌∷◌, refl}
+use Rattle.std.specs.Prelude.{◌≡◌, ◌∷◌}
 use Rattle.std.proofs.Common.{inl, inr, sym, ◌∙◌, ap}
-use Rattle.air_world.specs.Schedule.{Schedule}
-use Rattle.air_world.specs.World.{World}
-use Rattle.air_rehearsal.specs.Report.{CountOf, IsReport, Report}
+use Rattle.air_rehearsal.proofs.Names.{ℕ, suc, List, [], refl, Schedule, World, CountOf, IsReport, Report}
 
 one_count :
     {T : Type 0} (P : T → Type 0) (items : List T) (one other : ℕ) → CountOf P items one → CountOf P items other

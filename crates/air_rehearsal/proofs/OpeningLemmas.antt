@@ -1,16 +1,7 @@
 -- Clients are opened one after another, each over its disk.
 use Rattle.std.proofs.Common.{◌≡◌, ℕ, zero, suc, ◌+◌, ◌<◌, List, [], ◌∷◌, ◌++◌, Some, IsTrue}
 use Rattle.std.proofs.Common.{refl, sym, ap, subst, ◌∙◌, inl, inr, arith, length-append}
-use Rattle.std.specs.Prelude.{slice_get, slice_set}
-use Rattle.std.proofs.lemmas.List.Elements.{All-from_recursion}
-use Rattle.std.proofs.lemmas.Option.{same_Some}
-use Rattle.px_base.specs.CallSign.{CallSign, CallText, OneCall, is_call_char}
-use Rattle.disk_model.specs.Cuts.{Cuts}
-use Rattle.disk_model.specs.declared.disk.Disk.{Ghosts}
-use Rattle.air_world.specs.World.{pacsat}
-use Rattle.air_rehearsal.specs.Opening.{Opened, OpensClient, OpensFirst}
-use Rattle.air_rehearsal.specs.Ready.{AreReady}
-use Rattle.air_rehearsal.specs.declared.party.Party.{Party as StoredParty}
+use Rattle.air_rehearsal.proofs.Names.{slice_get, slice_set, All-from_recursion, same_Some, CallSign, CallText, OneCall, is_call_char, Cuts, Ghosts, pacsat, Opened, OpensClient, OpensFirst, AreReady, Party as StoredParty}
 use Rattle.air_rehearsal.proofs.BenchLemmas.{set_count}
 use Rattle.air_rehearsal.proofs.PairLemmas.{set_at}
 use Rattle.air_rehearsal.proofs.ReadyLemmas.{at_more}

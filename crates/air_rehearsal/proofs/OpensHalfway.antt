@@ -1,26 +1,10 @@
 -- Where memory was wanting while the stations were made, or at the end, a crash leaves what stands for the first world,
 -- or for the last one.
-use Rattle.std.specs.Prelude.{◌≡◌, ◌⊎◌, ℕ, ◌<◌, ◌≤◌, List, [], length, Some, refl}
-use Rattle.std.specs.Option.{option_map}
-use Rattle.std.specs.Prelude.{get_or}
+use Rattle.std.specs.Prelude.{◌≡◌, ◌⊎◌, ◌<◌, ◌≤◌}
 use Rattle.std.proofs.Common.{inl, inr, sym, ap, subst, ◌∙◌, arith}
-use Rattle.std.proofs.lemmas.Option.{slice_get-get_or, slice_get-map}
-use Rattle.disk_model.specs.Cuts.{Cuts, LastsSo, cut_state}
-use Rattle.disk_model.specs.Disk.{IsTold}
-use Rattle.disk_model.specs.declared.disk.Disk.{Ghosts}
-use Rattle.file_journal.specs.Journal.{journal_of}
-use Rattle.client_notes.specs.State.{StandsFor as StandsForNotes}
-use Rattle.ax25_link.specs.Window.{window_of}
-use Rattle.px_base.specs.CallSign.{CallSign}
-use Rattle.air_attempt.specs.Party.{Party, first_party}
-use Rattle.air_world.specs.Schedule.{Schedule}
-use Rattle.air_world.specs.World.{PartyAt, first_world, pacsat}
-use Rattle.air_rehearsal.specs.Chain.{Stage}
-use Rattle.air_rehearsal.specs.Halfway.{IsHalfway, TriesToOpen, TriesToStart}
-use Rattle.air_rehearsal.specs.Played.{first_stage}
-use Rattle.air_rehearsal.specs.Rehearsed.{EndsHalf, HalfStep}
-use Rattle.air_rehearsal.specs.Standing.{StandsFor, StandsNow}
-use Rattle.air_rehearsal.specs.Stations.{IsStationOf, Station, client_at, the_server}
+use Rattle.air_attempt.specs.Party.{Party}
+use Rattle.air_rehearsal.specs.Standing.{StandsFor}
+use Rattle.air_rehearsal.proofs.Names.{ℕ, List, [], length, Some, refl, option_map, get_or, slice_get-get_or, slice_get-map, Cuts, LastsSo, cut_state, IsTold, Ghosts, journal_of, StandsFor as StandsForNotes, window_of, CallSign, first_party, Schedule, PartyAt, first_world, pacsat, Stage, IsHalfway, TriesToOpen, TriesToStart, first_stage, EndsHalf, HalfStep, StandsNow, IsStationOf, Station, client_at, the_server}
 use Rattle.air_rehearsal.proofs.Alike.{HasBlocks, client_alike, server_alike}
 use Rattle.air_rehearsal.proofs.StopsHalfway.{AlikeHas, halfway_opened, halfway_tried, told_by}
 

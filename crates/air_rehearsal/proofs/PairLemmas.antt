@@ -1,8 +1,8 @@
 -- What is at a place of a list, and what is set there; and lists of which a relation holds place by place (`AllZip`).
 use Rattle.std.proofs.Common.{◌≡◌, ◌≢◌, ◌⊎◌, ℕ, zero, suc, ◌<◌, ◌≤◌, List, [], ◌∷◌, get_or, length, map, None, Some}
 use Rattle.std.proofs.Common.{refl, sym, ap, subst, inl, inr, arith, ◌∙◌}
-use Rattle.std.specs.List.{AllZip, slice_get, slice_set}
-use Rattle.std.proofs.lemmas.Option.{same_Some, slice_get_past, slice_get_read}
+use Rattle.std.specs.List.{slice_get, slice_set}
+use Rattle.air_rehearsal.proofs.Names.{AllZip, same_Some, slice_get_past, slice_get_read}
 
 module _ {X Y : Type 0} (R : X → Y → Type 0) where
   -- where the first list has an element at a place, the second one has one too, and the two are related

@@ -1,26 +1,8 @@
 -- What a client's part in an event does to its disk, in general, and what stays between two events.
 use Rattle.std.proofs.Common.{◌≡◌, ℕ, ◌<◌, ◌≤◌, List, [], length, refl, sym, subst, arith}
 use Rattle.std.proofs.Common.{Option, None, Some, Result, Ok, Err, false}
-use Rattle.std.specs.Prelude.{OnOk}
-use Rattle.disk_model.specs.Cuts.{Arming, Cuts, Failed, LastsSo, Passes, Unarmed, UsesUp, cut_state}
-use Rattle.disk_model.specs.declared.disk.Disk.{Ghosts}
-use Rattle.disk_model.specs.declared.halt.Halt.{Halt}
-use Rattle.file_journal.specs.Calls.{EachImage, TellsAlike}
-use Rattle.file_journal.specs.Form.{Form}
-use Rattle.file_journal.proofs.Offered.{if_told, started, told_weaker, within_most}
-use Rattle.ax25_link.specs.Sending.{Sending, next_sending}
-use Rattle.client_notes.specs.Command.{NotesCommand}
-use Rattle.client_notes.specs.Notes.{Lists}
 use Rattle.client_notes.specs.Several as notes
-use Rattle.client_notes.specs.State.{StandsFor}
-use Rattle.ftl0_client.specs.Attempt.Attempted.{Attempted}
-use Rattle.ftl0_client.specs.Client.{Client, IsSilent, Refused, sends_by, sends_of_attempt, sends_of_link}
-use Rattle.air_world.specs.Cuts.{client_commands}
-use Rattle.air_world.specs.Events.{ClientPart}
-use Rattle.air_rehearsal.specs.PartCalls.{TouchesDisk}
-use Rattle.air_rehearsal.specs.Standing.{least_done}
-use Rattle.air_rehearsal.specs.TakingPart.{CarriesPart, HasAll}
-use Rattle.air_rehearsal.specs.Worlds.{IsSteady}
+use Rattle.air_rehearsal.proofs.Names.{OnOk, Arming, Cuts, Failed, LastsSo, Passes, Unarmed, UsesUp, cut_state, Ghosts, Halt, EachImage, TellsAlike, Form, if_told, started, told_weaker, within_most, Sending, next_sending, NotesCommand, Lists, StandsFor, Attempted, Client, IsSilent, Refused, sends_by, sends_of_attempt, sends_of_link, client_commands, ClientPart, TouchesDisk, least_done, CarriesPart, HasAll, IsSteady}
 
 -- ---- nothing to send
 

@@ -12,17 +12,8 @@
 use Rattle.std.proofs.Common.{◌≡◌, ℕ, zero, suc, ◌+◌, List, [], ◌∷◌, ◌++◌, length, Option, None, Some}
 use Rattle.std.proofs.Common.{refl, sym, ap, ◌∙◌, arith}
 use Rattle.std.specs.List.{slice_get, slice_set}
-use Rattle.std.proofs.lemmas.Option.{none-some, same_Some}
-use Rattle.std.proofs.lemmas.Slice.Zip.{AllZip-long}
-use Rattle.air_attempt.specs.Party.{Asked, Party}
-use Rattle.air_files.specs.Uploads.{upload_file, upload_name}
-use Rattle.air_world.specs.Sound.{Sound}
-use Rattle.air_world.specs.World.{PartyAt, World}
-use Rattle.air_rehearsal.specs.TakingPart.{AreNamed, IsSeat}
-use Rattle.air_rehearsal.specs.Worlds.{PlayParties, PlaysParty, PlaysStations, asked_from}
-use Rattle.air_rehearsal.specs.declared.asking.Upload.{Upload}
-use Rattle.air_rehearsal.specs.declared.party.Party.{Party as StoredParty}
-use Rattle.air_rehearsal.specs.declared.stations.Stations.{Stations}
+use Rattle.air_attempt.specs.Party.{Party}
+use Rattle.air_rehearsal.proofs.Names.{none-some, same_Some, AllZip-long, Asked, upload_file, upload_name, Sound, PartyAt, World, AreNamed, IsSeat, PlayParties, PlaysParty, PlaysStations, asked_from, Upload, Party as StoredParty, Stations}
 use Rattle.air_rehearsal.proofs.PairLemmas.{pair-at, pair-left, pair-right, pair-set, pair-set_left}
 
 -- ---- the uploads that were asked

@@ -1,37 +1,10 @@
 -- What the stations make of an event in which the server takes no part, in whichever world is played.
-use Rattle.std.specs.Prelude.{◌≡◌, ℕ, suc, ◌≤◌, List, [], ◌∷◌, ◌++◌, length, slice_get, slice_set, true, Some}
-use Rattle.std.specs.Prelude.{IfSome, refl}
+use Rattle.std.specs.Prelude.{◌≡◌, ◌≤◌, ◌∷◌, ◌++◌}
 use Rattle.std.proofs.Common.{sym, ap, ◌∙◌, subst}
-use Rattle.std.proofs.lemmas.List.{append-nil}
-use Rattle.std.proofs.lemmas.Option.{same_Some}
-use Rattle.disk_model.specs.Cuts.{Cuts}
-use Rattle.disk_model.specs.declared.disk.Disk.{Ghosts}
-use Rattle.file_journal.specs.Calls.{EachImage}
-use Rattle.client_notes.specs.State.{StandsFor}
-use Rattle.ftl0_server.specs.ServerState.{ServerState}
 use Rattle.air_attempt.specs.Party.{Party}
-use Rattle.air_files.specs.Uploads.{upload_file}
-use Rattle.air_world.specs.Cuts.{broken}
-use Rattle.air_world.specs.Events.{ClientPart, ClientTakes, asking_file, next_upload}
-use Rattle.air_world.specs.Laws.{SoundLaw}
-use Rattle.air_world.specs.Lawful.{IsAllowed}
-use Rattle.air_world.specs.Schedule.{Event, ask_upload, break_client, cut_client, cut_server}
-use Rattle.air_world.specs.Step.{with_asked}
-use Rattle.air_world.specs.World.{PartyAt, World, counted, with_party}
-use Rattle.air_rehearsal.specs.Counting.{Tells, one_if}
-use Rattle.air_rehearsal.specs.Playing.{IsBench, counts_with}
-use Rattle.air_rehearsal.specs.PartyCalls.{BreaksOff}
-use Rattle.air_rehearsal.specs.Report.{Report, is_fetch, is_question, is_refusal}
-use Rattle.air_rehearsal.specs.Seats.{Clients, ComesAlways, GoesApart, MayTake, TookPart, asks}
-use Rattle.air_rehearsal.specs.Seats.{clients_of, with_server}
-use Rattle.air_rehearsal.specs.TakingPart.{IsPart, IsSeat, Seat}
-use Rattle.air_rehearsal.specs.Worlds.{IsSteady, asked_from}
-use Rattle.air_rehearsal.specs.declared.asking.Upload.{Upload}
-use Rattle.air_rehearsal.specs.declared.cuts.Cut.{Cut}
-use Rattle.air_rehearsal.specs.declared.part.Part.{Part}
+use Rattle.air_rehearsal.specs.Seats.{asks}
 use Rattle.air_rehearsal.specs.declared.part.Part.TheVariants as stored
-use Rattle.air_rehearsal.specs.declared.party.Party.{Party as StoredParty}
-use Rattle.air_rehearsal.specs.declared.stations.Stations.{Stations}
+use Rattle.air_rehearsal.proofs.Names.{ℕ, suc, List, [], length, slice_get, slice_set, true, Some, IfSome, refl, append-nil, same_Some, Cuts, Ghosts, EachImage, StandsFor, ServerState, upload_file, broken, ClientPart, ClientTakes, asking_file, next_upload, SoundLaw, IsAllowed, Event, ask_upload, break_client, cut_client, cut_server, with_asked, PartyAt, World, counted, with_party, Tells, one_if, IsBench, counts_with, BreaksOff, Report, is_fetch, is_question, is_refusal, Clients, ComesAlways, GoesApart, MayTake, TookPart, clients_of, with_server, IsPart, IsSeat, Seat, IsSteady, asked_from, Upload, Cut, Part, Party as StoredParty, Stations}
 use Rattle.air_rehearsal.proofs.Apart.{goes_broken, goes_cut_client, goes_cut_server, set_same}
 use Rattle.air_rehearsal.proofs.ClientFacts.{clients_event}
 use Rattle.air_rehearsal.proofs.ClientGoes.{within_of}

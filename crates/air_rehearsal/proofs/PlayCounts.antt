@@ -1,30 +1,11 @@
 -- What an event of each kind adds to the numbers of the report.
-use Rattle.std.specs.Prelude.{◌≡◌, ◌≢◌, ℕ, zero, suc, ◌+◌, ◌==◌, List, [], ◌∷◌, slice_get, slice_set, if◌then◌else◌, map}
-use Rattle.std.specs.Prelude.{Bool, ◌&&◌, false, true, Some, refl}
+use Rattle.std.specs.Prelude.{◌≡◌, ◌≢◌, ◌+◌, ◌==◌, ◌∷◌, if◌then◌else◌}
+use Rattle.std.specs.Prelude.{◌&&◌}
 use Rattle.std.proofs.Common.{sym, ap, ◌∙◌, subst, arith}
-use Rattle.std.specs.List.{AllZip}
-use Rattle.std.proofs.lemmas.Option.{same_Some}
-use Rattle.ax25_frames.specs.FrameText.{FrameValue}
-use Rattle.node.specs.Events.{NodeEvent, hears, ticks}
-use Rattle.ftl0_client.specs.declared.outcome.Outcome.{Outcome}
 use Rattle.ftl0_client.specs.declared.outcome.Outcome.TheVariants as outcome
-use Rattle.ftl0_client.specs.Outcomes.{outcome_by}
-use Rattle.ftl0_session.specs.Uploads.Session.{is_same_call}
-use Rattle.air_attempt.specs.Party.{Party, sessions_over}
-use Rattle.air_attempt.specs.Transfers.{ServerDid}
-use Rattle.air_world.specs.Cuts.{ServerDoes, ServerEvent, broken}
-use Rattle.air_world.specs.Events.{ServerTakes}
-use Rattle.air_world.specs.Schedule.{Event, break_client, cut_client, cut_server, tick_server, to_server}
-use Rattle.air_world.specs.Schedule.{ask_download, ask_list, ask_resume, ask_upload, tick_client, to_client}
-use Rattle.air_world.specs.Step.{parties_after, party_heard, party_ticked}
-use Rattle.air_world.specs.World.{PartyAt, World}
-use Rattle.air_rehearsal.specs.Counting.{Tells, one_if, told}
-use Rattle.air_rehearsal.specs.Playing.{came_in, counts_with, cuts_in}
-use Rattle.air_rehearsal.specs.Report.{Report, is_fetch, is_question, is_refusal, is_working}
-use Rattle.air_rehearsal.specs.Stations.{Role, Station, acts, breaks_off, client_at, looks_on, role_of, the_server}
-use Rattle.air_rehearsal.specs.Stations.{will_be_cut}
+use Rattle.air_attempt.specs.Party.{Party}
 use Rattle.air_rehearsal.specs.declared.report.Report.{Report as StoredReport}
-use Rattle.air_rehearsal.specs.declared.stations.Stations.{Stations}
+use Rattle.air_rehearsal.proofs.Names.{ℕ, zero, suc, List, [], slice_get, slice_set, map, Bool, false, true, Some, refl, AllZip, same_Some, FrameValue, NodeEvent, hears, ticks, Outcome, outcome_by, is_same_call, sessions_over, ServerDid, ServerDoes, ServerEvent, broken, ServerTakes, Event, break_client, cut_client, cut_server, tick_server, to_server, ask_download, ask_list, ask_resume, ask_upload, tick_client, to_client, parties_after, party_heard, party_ticked, PartyAt, World, Tells, one_if, told, came_in, counts_with, cuts_in, Report, is_fetch, is_question, is_refusal, is_working, Role, Station, acts, breaks_off, client_at, looks_on, role_of, the_server, will_be_cut, Stations}
 use Rattle.air_rehearsal.proofs.CountLemmas.{SameAttempt, came-at, came-same, same-each}
 use Rattle.air_rehearsal.proofs.CutCounts.{nobody_cuts}
 

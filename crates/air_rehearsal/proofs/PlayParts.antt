@@ -1,29 +1,11 @@
 -- What a result holds that is handed on, and which client has a number.
-use Rattle.std.specs.Prelude.{◌≡◌, ◌≢◌, ◌↔◌, ℕ, zero, suc, ◌+◌, ◌<◌, List, [], ◌∷◌, length, slice_get, slice_set, Result, Ok, Err}
-use Rattle.std.specs.Prelude.{IfOk, OnOk, Some, Bool, true, false, ◌&&◌, IsTrue, slice_index_or, is_some, refl}
+use Rattle.std.specs.Prelude.{◌≡◌, ◌≢◌, ◌↔◌, ◌+◌, ◌<◌, ◌∷◌}
+use Rattle.std.specs.Prelude.{◌&&◌}
 use Rattle.std.proofs.Common.{ap, sym, ◌∙◌, subst, arith}
-use Rattle.std.proofs.lemmas.Option.{same_Some}
-use Rattle.disk_model.specs.Cuts.{Cuts}
-use Rattle.disk_model.specs.declared.disk.Disk.{Ghosts}
-use Rattle.file_journal.specs.Calls.{EachImage}
-use Rattle.client_notes.specs.State.{NotesState, StandsFor}
-use Rattle.ftl0_client.specs.ClientState.{IsClient}
-use Rattle.ftl0_client.specs.Client.{Client}
-use Rattle.ftl0_client.specs.Outcomes.{outcome_by}
-use Rattle.ftl0_client.specs.declared.outcome.Outcome.{Outcome}
 use Rattle.ftl0_client.specs.declared.outcome.Outcome.TheVariants as outcome
-use Rattle.air_world.specs.Events.{ClientPart, ClientTakes}
-use Rattle.air_world.specs.Lawful.{IsAllowed}
-use Rattle.air_world.specs.Schedule.{Event}
-use Rattle.air_rehearsal.specs.Counting.{Tells, TellsThen, asked_more, cut_more, one_if, outcome_more, told}
-use Rattle.air_rehearsal.specs.Numbers.{place_numbered}
-use Rattle.air_rehearsal.specs.Report.{Report, is_fetch, is_refusal, is_working}
-use Rattle.air_rehearsal.specs.Seats.{Clients, MayTake, TookPart, asks}
-use Rattle.air_rehearsal.specs.TakingPart.{DoesPart, IsPart, IsSeat, Seat, TakesPart}
-use Rattle.air_rehearsal.specs.Worlds.{IsSteady}
-use Rattle.air_rehearsal.specs.declared.part.Part.{Part}
-use Rattle.air_rehearsal.specs.declared.party.Party.{Party as StoredParty}
+use Rattle.air_rehearsal.specs.Seats.{asks}
 use Rattle.air_rehearsal.specs.declared.report.Report.{Report as StoredReport}
+use Rattle.air_rehearsal.proofs.Names.{ℕ, zero, suc, List, [], length, slice_get, slice_set, Result, Ok, Err, IfOk, OnOk, Some, Bool, true, false, IsTrue, slice_index_or, is_some, refl, same_Some, Cuts, Ghosts, EachImage, NotesState, StandsFor, IsClient, Client, outcome_by, Outcome, ClientPart, ClientTakes, IsAllowed, Event, Tells, TellsThen, asked_more, cut_more, one_if, outcome_more, told, place_numbered, Report, is_fetch, is_refusal, is_working, Clients, MayTake, TookPart, DoesPart, IsPart, IsSeat, Seat, TakesPart, IsSteady, Part, Party as StoredParty}
 
 -- what has P where it is there has Q then, where that follows
 pub if_ok : {T E : Type 0} (r : Result T E) (P Q : T → Type 0) → IfOk r P → ((x : T) → P x → Q x) → IfOk r Q

@@ -1,30 +1,8 @@
 -- What the stations make of an event of the server, in whichever world is played.
-use Rattle.std.specs.Prelude.{◌≡◌, ℕ, zero, suc, ◌+◌, ◌%◌, ◌^◌, List, is_some, Bool, false, true, Option, None, Some, refl}
+use Rattle.std.specs.Prelude.{◌≡◌, ◌+◌, ◌%◌, ◌^◌}
 use Rattle.std.proofs.Common.{sym, ap, ◌∙◌, subst, arith}
-use Rattle.disk_model.specs.Cuts.{Cuts}
-use Rattle.disk_model.specs.declared.disk.Disk.{Ghosts}
-use Rattle.node.specs.Events.{NodeEvent}
-use Rattle.ftl0_server.specs.ServerState.{ServerState}
-use Rattle.air_world.specs.Cuts.{Happens, ServerDoes, ServerEvent, WorldStep}
-use Rattle.air_world.specs.Events.{ServerTakes}
-use Rattle.air_world.specs.Laws.{SoundLaw}
-use Rattle.air_world.specs.Lawful.{IsAllowed}
-use Rattle.air_world.specs.Schedule.{Event, ask_download, ask_list, ask_resume, ask_upload, break_client, cut_client}
-use Rattle.air_world.specs.Schedule.{cut_server, tick_client, tick_server, to_client, to_server}
-use Rattle.air_world.specs.World.{World, next_moment}
-use Rattle.air_rehearsal.specs.Chain.{Stage}
-use Rattle.air_rehearsal.specs.Counting.{Tells, one_if}
-use Rattle.air_rehearsal.specs.Playing.{Bench, GoesOn, IsBench, IsPlaying, IsStage, PlaysEvent, bench_of}
-use Rattle.air_rehearsal.specs.Ready.{AreReady, KeepsClients}
-use Rattle.air_rehearsal.specs.Report.{is_fetch, is_question, is_refusal}
-use Rattle.air_rehearsal.specs.Seats.{CountsCut, CountsEvent}
-use Rattle.air_rehearsal.specs.ServerEvents.{AwaitsServer, CanCount, ServesEvent, TellsFailure, serving, waiting_of}
-use Rattle.air_rehearsal.specs.Standing.{StandsNow}
-use Rattle.air_rehearsal.specs.Stations.{Station, acts, client_at, looks_on, role_of, the_server}
-use Rattle.air_rehearsal.specs.Worlds.{PlaysWorld}
-use Rattle.air_rehearsal.specs.declared.cuts.Cut.{Cut}
 use Rattle.air_rehearsal.specs.declared.report.Report.{Report as StoredReport}
-use Rattle.air_rehearsal.specs.declared.stations.Stations.{Stations}
+use Rattle.air_rehearsal.proofs.Names.{ℕ, zero, suc, List, is_some, Bool, false, true, Option, None, Some, refl, Cuts, Ghosts, NodeEvent, ServerState, Happens, ServerDoes, ServerEvent, WorldStep, ServerTakes, SoundLaw, IsAllowed, Event, ask_download, ask_list, ask_resume, ask_upload, break_client, cut_client, cut_server, tick_client, tick_server, to_client, to_server, World, next_moment, Stage, Tells, one_if, Bench, GoesOn, IsBench, IsPlaying, IsStage, PlaysEvent, bench_of, AreReady, KeepsClients, is_fetch, is_question, is_refusal, CountsCut, CountsEvent, AwaitsServer, CanCount, ServesEvent, TellsFailure, serving, waiting_of, StandsNow, Station, acts, client_at, looks_on, role_of, the_server, PlaysWorld, Cut, Stations}
 use Rattle.air_rehearsal.proofs.CutCounts.{server_cuts}
 use Rattle.air_rehearsal.proofs.PlayCounts.{server_came, tells_cuts, tells_with}
 use Rattle.air_rehearsal.proofs.ReadyLemmas.{kept_ready}

@@ -1,23 +1,12 @@
 -- What is promised of a stage's world holds in whatever a crash since then leaves of the server's disk, where the store
 -- of each later world follows from the one before.
-use Rattle.std.specs.Prelude.{ℕ, List, [], ◌∷◌, refl, ⊤}
-use Rattle.std.specs.List.{AllByRecursion}
+use Rattle.std.specs.Prelude.{◌∷◌}
 use Rattle.std.proofs.Common.{inl, inr, sym, subst}
-use Rattle.disk_model.specs.Cuts.{Cuts}
-use Rattle.disk_model.specs.declared.disk.Disk.{Ghosts}
-use Rattle.file_entries.specs.Follows.{Follows, FollowsLaw}
 use Rattle.file_entries.specs.IsStore.{IsStore}
 use Rattle.file_store.specs.State.{StandsFor as StandsForStore}
-use Rattle.file_store.specs.Store.{Store}
 use Rattle.air_files.specs.Facts.{IsOfferKept}
-use Rattle.air_world.specs.Headline.{HeadlineIn, HeadlineStays}
 use Rattle.air_world.specs.Offered.{Offered}
-use Rattle.air_world.specs.Schedule.{Event}
-use Rattle.air_world.specs.World.{World}
-use Rattle.air_rehearsal.specs.Chain.{Follow, Stage, StartsAgain, last_stage}
-use Rattle.air_rehearsal.specs.Rehearsed.{KeepsPromise, PromisedSince}
-use Rattle.air_rehearsal.specs.Standing.{StandsDuring, StandsNow}
-use Rattle.air_rehearsal.specs.Stations.{the_server}
+use Rattle.air_rehearsal.proofs.Names.{ℕ, List, [], refl, ⊤, AllByRecursion, Cuts, Ghosts, Follows, FollowsLaw, Store, HeadlineIn, HeadlineStays, Event, World, Follow, Stage, StartsAgain, last_stage, KeepsPromise, PromisedSince, StandsDuring, StandsNow, the_server}
 use Rattle.air_rehearsal.proofs.Alike.{HasBlocks, server_alike}
 use Rattle.air_rehearsal.proofs.ImagesThrough.{AllFit, StandsSomewhere, images_to_end}
 

@@ -1,19 +1,8 @@
 -- Clients stay ready where one of them takes part in an event.
 use Rattle.std.proofs.Common.{◌≡◌, ◌≢◌, ◌⊎◌, ℕ, zero, suc, ◌<◌, ◌≤◌, List, [], ◌∷◌, ◌++◌, length, Some, Result, Ok, Err}
 use Rattle.std.proofs.Common.{refl, sym, ap, subst, inl, inr, arith}
-use Rattle.std.specs.Prelude.{slice_get, slice_set, slice_index_or, OnOk}
-use Rattle.std.proofs.lemmas.Option.{same_Some, slice_get_read}
-use Rattle.px_base.specs.CallSign.{CallSign}
-use Rattle.client_notes.specs.Limits.{longest_file}
-use Rattle.client_notes.specs.Notes.{Lists, got_of}
-use Rattle.ftl0_job.specs.Download.{new_download}
-use Rattle.ftl0_job.specs.JobState.{NotesGoWith}
-use Rattle.ftl0_job.specs.Table.{JobState, new_job}
 use Rattle.ftl0_job.specs.declared.work.Work.TheVariants as work
-use Rattle.disk_model.specs.declared.disk.Disk.{Ghosts}
-use Rattle.air_rehearsal.specs.declared.party.Party.{Party}
-use Rattle.air_rehearsal.specs.declared.stations.Stations.{Stations}
-use Rattle.air_rehearsal.specs.Ready.{AreReady, IsReadyParty, KeepsAllButLanes, KeepsClients}
+use Rattle.air_rehearsal.proofs.Names.{slice_get, slice_set, slice_index_or, OnOk, same_Some, slice_get_read, CallSign, longest_file, Lists, got_of, new_download, NotesGoWith, JobState, new_job, Ghosts, Party, Stations, AreReady, IsReadyParty, KeepsAllButLanes, KeepsClients}
 use Rattle.air_rehearsal.proofs.PairLemmas.{pair-right, set_at}
 
 -- the element at a place of a list with one more

@@ -1,15 +1,7 @@
 -- A client starts from its disk.
 use Rattle.std.proofs.Common.{◌≡◌, ℕ, [], refl, sym, ◌∙◌, Some, Ok}
-use Rattle.std.specs.Prelude.{IfSome}
-use Rattle.disk_model.specs.declared.disk.Disk.{Ghosts}
-use Rattle.file_journal.specs.Journal.{journal_of}
-use Rattle.file_journal.specs.Walk.{state}
-use Rattle.file_journal.proofs.Offered.{at_told}
-use Rattle.client_notes.specs.Notes.{no_notes}
 use Rattle.client_notes.specs.Recovery.{AnswersRecovery, IsRecovered}
-use Rattle.client_notes.specs.State.{NotesState, StandsFor}
-use Rattle.air_rehearsal.specs.Chain.{StartsAgain}
-use Rattle.air_rehearsal.specs.Stations.{client_at}
+use Rattle.air_rehearsal.proofs.Names.{IfSome, Ghosts, journal_of, state, at_told, no_notes, NotesState, StandsFor, StartsAgain, client_at}
 
 module _ {D T : Type 0} (g : Ghosts D) (disk disk_now : D) (notes : NotesState) (x : T)
     (recovered : IsRecovered g disk disk_now notes) (answers : AnswersRecovery {T = T} g (Ok x) disk disk_now) where

@@ -1,22 +1,8 @@
 -- The worlds of a run over the stages of the server's disk: each is sound, has the blocks of a rehearsal, and its store
 -- follows from the one before. So what is promised of each holds in whatever a crash since then leaves of the disk.
-use Rattle.std.specs.Prelude.{◌≡◌, ℕ, List, [], ◌∷◌, map, ⊤}
-use Rattle.std.specs.List.{AllByRecursion}
+use Rattle.std.specs.Prelude.{◌≡◌, ◌∷◌}
 use Rattle.std.proofs.Common.{sym, subst, ◌∙◌}
-use Rattle.disk_model.specs.Cuts.{Cuts}
-use Rattle.disk_model.specs.declared.disk.Disk.{Ghosts}
-use Rattle.file_entries.specs.Follows.{FollowsLaw}
-use Rattle.file_store.specs.OnDisk.{after_first}
-use Rattle.air_world.specs.Cuts.{IsRun, Plays, WorldStep, server_commands}
-use Rattle.air_world.specs.Laws.{PartsLaw, SoundLaw, StoresLaw}
-use Rattle.air_world.specs.Schedule.{Event, Schedule}
-use Rattle.air_world.specs.Sound.{Sound}
-use Rattle.air_world.specs.World.{World, first_world}
-use Rattle.air_rehearsal.specs.Chain.{Follow, Stage, StartsAgain, last_stage}
-use Rattle.air_rehearsal.specs.Played.{EndsWhole, PlayedAt, first_stage}
-use Rattle.air_rehearsal.specs.Rehearsed.{PromisedInImages, PromisedSince}
-use Rattle.air_rehearsal.specs.Standing.{StandsDuring, StandsNow}
-use Rattle.air_rehearsal.specs.Stations.{the_server}
+use Rattle.air_rehearsal.proofs.Names.{ℕ, List, [], map, ⊤, AllByRecursion, Cuts, Ghosts, FollowsLaw, after_first, IsRun, Plays, WorldStep, server_commands, PartsLaw, SoundLaw, StoresLaw, Event, Schedule, Sound, World, first_world, Follow, Stage, StartsAgain, last_stage, EndsWhole, PlayedAt, first_stage, PromisedInImages, PromisedSince, StandsDuring, StandsNow, the_server}
 use Rattle.air_rehearsal.proofs.Alike.{HasBlocks}
 use Rattle.air_rehearsal.proofs.ImagesThrough.{AllFit}
 use Rattle.air_rehearsal.proofs.Promised.{FollowsIn, IsGoodWorld, StoresFollow, promised_all}

@@ -1,23 +1,9 @@
 -- What the frames that the server sends make of the transmissions of a client's current attempt, by what becomes of the
 -- client's attempts.
 use Rattle.std.proofs.Common.{◌≡◌, ℕ, suc, List, [], ◌∷◌, length, map, Bool, true, false, Option, None, Some, refl, sym, ap, ◌∙◌}
-use Rattle.std.specs.Prelude.{◌||◌, is_some, slice_get}
-use Rattle.std.specs.Option.{option_map}
-use Rattle.std.proofs.lemmas.List.{length-map}
-use Rattle.std.specs.List.{AllByRecursion}
-use Rattle.std.specs.Option.{option_map_or}
-use Rattle.std.proofs.lemmas.Bool.{or_from, or_left, or_right}
-use Rattle.px_base.specs.CallSign.{CallSign}
-use Rattle.ax25_frames.specs.FrameText.{FrameValue}
-use Rattle.ax25_link.specs.Air.{Transmission, fresh, sending_all}
-use Rattle.ftl0_server.specs.Connection.Connected.{Connected}
+use Rattle.std.specs.Prelude.{◌||◌}
 use Rattle.ftl0_server.specs.Entries as session
-use Rattle.air_attempt.specs.Attempt.{Attempt, IsAnsweredBy, IsAttempt, IsRefusal}
-use Rattle.air_attempt.specs.Laws.{AreAttempts}
-use Rattle.air_attempt.specs.Party.{over, server_sends, with_answered}
-use Rattle.air_attempt.specs.Sides.{ServerSide}
-use Rattle.air_attempt.specs.Transfers.{ServerDid, heard_by, served, ticked_by}
-use Rattle.air_rehearsal.specs.Lanes.{is_ua, lanes_of, replying_each, timing_each}
+use Rattle.air_rehearsal.proofs.Names.{is_some, slice_get, option_map, length-map, AllByRecursion, option_map_or, or_from, or_left, or_right, CallSign, FrameValue, Transmission, fresh, sending_all, Connected, Attempt, IsAnsweredBy, IsAttempt, IsRefusal, AreAttempts, over, server_sends, with_answered, ServerSide, ServerDid, heard_by, served, ticked_by, is_ua, lanes_of, replying_each, timing_each}
 use Rattle.air_rehearsal.proofs.SentLanes.{has_ua, replying-each, timing-answered, timing-unanswered, with_said}
 
 -- ---- where no session answers

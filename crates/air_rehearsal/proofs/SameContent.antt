@@ -1,18 +1,6 @@
 -- What stands on a disk that has the same content as another one: one that was armed, or read.
 use Rattle.std.proofs.Common.{◌≡◌, ℕ, List, Option, None, Some, inr, sym, ap, subst, ◌∙◌}
-use Rattle.disk_model.specs.Cuts.{Cuts}
-use Rattle.disk_model.specs.Disk.{IsTold}
-use Rattle.disk_model.specs.declared.disk.Disk.{Ghosts}
-use Rattle.file_store.specs.State.{IsKnown, StoreState, store_on}
-use Rattle.file_store.specs.Store.{Store}
-use Rattle.file_store.proofs.Offered.{on_same}
-use Rattle.ftl0_server.specs.Server.{Server}
-use Rattle.ftl0_server.specs.ServerState.{IsServer, ServerState}
-use Rattle.air_world.specs.World.{World}
-use Rattle.air_rehearsal.specs.ServerCalls.{ArmsFor}
-use Rattle.air_rehearsal.specs.ServerEvents.{AwaitsServer, Serving}
-use Rattle.air_rehearsal.specs.Worlds.{PlaysWorld}
-use Rattle.air_rehearsal.specs.declared.cuts.Cut.{Cut}
+use Rattle.air_rehearsal.proofs.Names.{Cuts, IsTold, Ghosts, IsKnown, StoreState, store_on, Store, on_same, Server, IsServer, ServerState, World, ArmsFor, AwaitsServer, Serving, PlaysWorld, Cut}
 
 -- arming changes no content
 pub arms-content : {B : Type 0} (g : Ghosts B) (cuts : Cuts B) (cut : Option Cut) (disk armed : B)

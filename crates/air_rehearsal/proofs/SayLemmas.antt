@@ -1,24 +1,10 @@
 -- What a client has to send is sent, frame after frame.
 use Rattle.std.proofs.Common.{◌≡◌, ℕ, List, [], ◌∷◌, ◌++◌, refl, sym, ◌∙◌, subst, append_assoc}
 use Rattle.std.proofs.Common.{Option, None, Some, false, true}
-use Rattle.std.proofs.lemmas.List.{append-nil}
-use Rattle.ax25_frames.specs.FrameText.{FrameText, FrameValue}
-use Rattle.disk_model.specs.declared.disk.Disk.{Ghosts}
-use Rattle.ax25_link.specs.Window.{IsGoodK}
-use Rattle.client_notes.specs.Notes.{Lists}
-use Rattle.client_notes.specs.State.{IsReady, NotesState}
-use Rattle.ftl0_job.specs.JobState.{NotesGoWith}
-use Rattle.ftl0_job.specs.Table.{JobState}
-use Rattle.ftl0_client.specs.Attempt.AttemptState.{AttemptState}
-use Rattle.ftl0_client.specs.Calls.{HandsOut, SameAttempt, SameButFrames}
-use Rattle.ftl0_client.specs.Client.{Client, ClientSends, client_next}
-use Rattle.ftl0_client.specs.ClientState.{ClientState, GoWithAttempt, IsClient}
+use Rattle.client_notes.specs.State.{IsReady}
 use Rattle.ftl0_client.specs.ClientStep.{Empties}
-use Rattle.air_rehearsal.specs.Lanes.{HasLanes, Lanes, sending, sending_each}
-use Rattle.air_rehearsal.specs.PartCalls.{SaysAll}
-use Rattle.air_rehearsal.specs.Ready.{IsTheirs}
 use Rattle.air_rehearsal.specs.declared.attempt.Attempt.{Attempt as StoredAttempt}
-use Rattle.air_rehearsal.specs.declared.party.Party.{Party as StoredParty}
+use Rattle.air_rehearsal.proofs.Names.{append-nil, FrameText, FrameValue, Ghosts, IsGoodK, Lists, NotesState, NotesGoWith, JobState, AttemptState, HandsOut, SameAttempt, SameButFrames, Client, ClientSends, client_next, ClientState, GoWithAttempt, IsClient, HasLanes, Lanes, sending, sending_each, SaysAll, IsTheirs, Party as StoredParty}
 
 -- These frames were sent so far, and the client is one that has still to send what is left.
 pub record SaysSoFar (client : Client) (lanes : Lanes) (self : StoredParty) : Type 0 where

@@ -2,13 +2,8 @@
 use Rattle.std.proofs.Common.{◌≡◌, List, [], ◌∷◌, ◌++◌, map, Bool, true, false, refl, sym, ap, ap₂, ◌∙◌, append_assoc}
 use Rattle.std.proofs.Common.{append-nil, length}
 use Rattle.std.specs.Prelude.{◌||◌, if◌then◌else◌}
-use Rattle.std.specs.List.{AllByRecursion, list_any}
-use Rattle.ax25_frames.specs.FrameText.{FrameValue}
-use Rattle.ax25_link.specs.Air.{Transmission, control_of, fresh, sending_all}
 use Rattle.ax25_link.specs.Laws.{HasNoCall}
-use Rattle.ax25_link.specs.Rows.{is_call}
-use Rattle.air_attempt.specs.Attempt.{Attempt, IsOneCall}
-use Rattle.air_rehearsal.specs.Lanes.{Lanes, beginning, is_ua, lanes_of, replying_each, sending_each, timing_each}
+use Rattle.air_rehearsal.proofs.Names.{AllByRecursion, list_any, FrameValue, Transmission, control_of, fresh, sending_all, is_call, Attempt, IsOneCall, Lanes, beginning, is_ua, lanes_of, replying_each, sending_each, timing_each}
 
 -- one frame more behind those that were sent, and then others
 sent-more : (list : List Transmission) (frame : FrameValue) (frames : List FrameValue)

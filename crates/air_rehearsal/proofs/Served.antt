@@ -1,40 +1,8 @@
 -- The server took part in an event, whether it was cut or not.
 use Rattle.std.proofs.Common.{◌≡◌, ℕ, ◌-◌, ◌<◌, ◌≤◌, Bool, true, false, List, [], length, Option, None, Some}
 use Rattle.std.proofs.Common.{IfSome, Result, refl, sym, ap, subst, ◌∙◌, inl, inr, arith}
-use Rattle.std.specs.Prelude.{is_some, map, take, ⊤}
-use Rattle.ax25_frames.specs.FrameText.{FrameValue}
-use Rattle.ax25_link.specs.Window.{Window, window_of}
-use Rattle.disk_model.specs.Cuts.{ArmsOnly, Cuts, LastsSo, cut_state}
-use Rattle.disk_model.specs.Disk.{IsTold}
-use Rattle.disk_model.specs.Moments.{LeavesOnly}
-use Rattle.disk_model.specs.declared.disk.DiskFault.{DiskFault}
-use Rattle.disk_model.specs.declared.disk.Disk.{Ghosts}
-use Rattle.file_entries.specs.Command.{Command, DropsNothing}
-use Rattle.file_journal.specs.Calls.{Leaves, images_now}
-use Rattle.file_journal.specs.Walk.{state}
-use Rattle.file_journal.proofs.Offered.{at_told, if_told}
-use Rattle.file_store.specs.OnDisk.{MakesBetween, MakesFirst, after_first}
-use Rattle.file_store.specs.State.{IsReady, StandsFor, standing_of, store_form, store_on}
-use Rattle.file_store.specs.Store.{Store}
-use Rattle.file_store.proofs.Offered.{on_same}
-use Rattle.ftl0_server.specs.Server.{Server, new_server, settled}
-use Rattle.ftl0_server.specs.ServerState.{IsServer}
-use Rattle.ftl0_server.specs.ServerStep.{Empties, happening}
-use Rattle.server_laws.specs.Misses.{FrontOfEventLaw, MissesLaw}
-use Rattle.air_attempt.specs.Party.{sessions_over}
-use Rattle.air_files.specs.SoundStore.{NoneGone}
-use Rattle.air_world.specs.Cuts.{ServerDoes, server_commands}
-use Rattle.air_world.specs.Schedule.{Event}
-use Rattle.air_world.specs.World.{World, counted, store_blocks}
-use Rattle.air_rehearsal.specs.Chain.{CarriesOut, StepBy}
-use Rattle.air_rehearsal.specs.ServerCalls.{IsCutSo, IsTaken}
-use Rattle.air_rehearsal.specs.ServerEvents.{AwaitsServer, ServesEvent, Serving, TellsFailure, server_stage, serving}
-use Rattle.air_rehearsal.specs.ServerEvents.{waiting_of}
-use Rattle.air_rehearsal.specs.Standing.{Makes, StandsNow, least_done}
-use Rattle.air_rehearsal.specs.Stations.{acts, the_server}
-use Rattle.air_rehearsal.specs.Worlds.{IsSteady, PlayParties, PlaysWorld, asked_from}
-use Rattle.air_rehearsal.specs.declared.cuts.Cut.{Cut}
-use Rattle.air_rehearsal.specs.declared.stations.Stations.{Stations}
+use Rattle.file_store.specs.State.{StandsFor}
+use Rattle.air_rehearsal.proofs.Names.{is_some, map, take, ⊤, FrameValue, Window, window_of, ArmsOnly, Cuts, LastsSo, cut_state, IsTold, LeavesOnly, DiskFault, Ghosts, Command, DropsNothing, Leaves, images_now, state, at_told, if_told, MakesBetween, MakesFirst, after_first, IsReady, standing_of, store_form, store_on, Store, on_same, Server, new_server, settled, IsServer, Empties, happening, FrontOfEventLaw, MissesLaw, sessions_over, NoneGone, ServerDoes, server_commands, Event, World, counted, store_blocks, CarriesOut, StepBy, IsCutSo, IsTaken, AwaitsServer, ServesEvent, Serving, TellsFailure, server_stage, serving, waiting_of, Makes, StandsNow, least_done, acts, the_server, IsSteady, PlayParties, PlaysWorld, asked_from, Cut, Stations}
 use Rattle.air_rehearsal.proofs.SameContent.{server-over, store-same}
 use Rattle.air_rehearsal.proofs.ServingDisk.{WentCut, WentWhole, all-images, stands-now, steady-on, told-content, went-cut}
 use Rattle.air_rehearsal.proofs.ServingWorld.{carried, commands-blocks, empties-keeps, goes, happening-window, next}

@@ -1,31 +1,7 @@
 -- The server took part in the event of a frame that it heard, or of a tick, and sent what it had to send.
 use Rattle.std.proofs.Common.{◌≡◌, ℕ, zero, suc, ◌≤◌, List, [], ◌∷◌, Option, None, Some, IfSome, Result, false, true, refl}
 use Rattle.std.proofs.Common.{sym, ap, subst, ◌∙◌}
-use Rattle.std.specs.Prelude.{is_ok, is_some, slice_get, slice_set, ⊤}
-use Rattle.disk_model.specs.Cuts.{Cuts, LastsSo, cut_state}
-use Rattle.disk_model.specs.declared.disk.Disk.{Ghosts}
-use Rattle.disk_model.specs.declared.disk.DiskFault.{DiskFault}
-use Rattle.file_store.specs.State.{store_on}
-use Rattle.file_store.specs.Store.{Store}
-use Rattle.ftl0_server.specs.Calls.{Hears}
-use Rattle.ftl0_server.specs.Server.{Server}
-use Rattle.ftl0_server.specs.ServerState.{IsServer}
-use Rattle.ftl0_server.specs.ServerStep.{happening}
-use Rattle.node.specs.Events.{NodeEvent, ticks}
-use Rattle.server_laws.specs.Misses.{MissesLaw}
-use Rattle.air_attempt.specs.Party.{to_server_delivered}
-use Rattle.air_world.specs.Events.{DeliversToServer, with_current}
-use Rattle.air_world.specs.Lawful.{IsAllowed}
-use Rattle.air_world.specs.Schedule.{Event, tick_server, to_server}
-use Rattle.air_world.specs.World.{World, next_moment}
-use Rattle.air_rehearsal.specs.LaneLaws.{HearingLanesLaw, TickingLanesLaw}
-use Rattle.air_rehearsal.specs.Ready.{KeepsClients}
-use Rattle.air_rehearsal.specs.ServerCalls.{IsTaken, RepliesAt, SendsByTimer}
-use Rattle.air_rehearsal.specs.ServerEvents.{AwaitsServer, ServesEvent, Serving}
-use Rattle.air_rehearsal.specs.Worlds.{PlayParties, PlaysStations}
-use Rattle.air_rehearsal.specs.declared.cuts.Cut.{Cut}
-use Rattle.air_rehearsal.specs.declared.party.Party.{Party as StoredParty}
-use Rattle.air_rehearsal.specs.declared.stations.Stations.{Stations}
+use Rattle.air_rehearsal.proofs.Names.{is_ok, is_some, slice_get, slice_set, ⊤, Cuts, LastsSo, cut_state, Ghosts, DiskFault, store_on, Store, Hears, Server, IsServer, happening, NodeEvent, ticks, MissesLaw, to_server_delivered, DeliversToServer, with_current, IsAllowed, Event, tick_server, to_server, World, next_moment, HearingLanesLaw, TickingLanesLaw, KeepsClients, IsTaken, RepliesAt, SendsByTimer, AwaitsServer, ServesEvent, Serving, PlayParties, PlaysStations, Cut, Party as StoredParty, Stations}
 use Rattle.air_rehearsal.proofs.Served.{serves-whole}
 use Rattle.air_rehearsal.proofs.ServingDisk.{WentWhole, steady-on, went-whole}
 use Rattle.air_rehearsal.proofs.ServingHeard.{plays-heard, plays-ticked}

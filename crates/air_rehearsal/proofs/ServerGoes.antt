@@ -1,28 +1,10 @@
 -- An event of the server makes a next world of the one that is played.
-use Rattle.std.specs.Prelude.{◌≡◌, ℕ, ◌≤◌, List, length, slice_get, is_some, false, true, Option, None, Some, refl}
+use Rattle.std.specs.Prelude.{◌≡◌, ◌≤◌}
 use Rattle.std.proofs.Common.{sym, ap, ◌∙◌, subst, arith}
-use Rattle.std.proofs.lemmas.Option.{same_Some}
-use Rattle.disk_model.specs.Cuts.{Cuts}
-use Rattle.disk_model.specs.declared.disk.Disk.{Ghosts}
-use Rattle.client_notes.specs.Notes.{Lists}
 use Rattle.client_notes.specs.State as notes
 use Rattle.air_attempt.specs.Party.{Party}
-use Rattle.air_world.specs.Cuts.{WorldStep}
-use Rattle.air_world.specs.Laws.{SoundLaw}
-use Rattle.air_world.specs.Schedule.{Event}
-use Rattle.air_world.specs.World.{PartyAt, World}
-use Rattle.air_rehearsal.specs.Chain.{DiskStep, Stage, StepBy}
-use Rattle.air_rehearsal.specs.Playing.{Bench, GoesOn, IsBench, IsStage, client_count, counts_with}
-use Rattle.air_rehearsal.specs.Counting.{Tells}
-use Rattle.air_rehearsal.specs.Ready.{KeepsClients}
-use Rattle.air_rehearsal.specs.Report.{Report}
-use Rattle.air_rehearsal.specs.Seats.{CountsCut}
-use Rattle.air_rehearsal.specs.ServerEvents.{ServesEvent, serving, waiting_of}
-use Rattle.air_rehearsal.specs.Standing.{StandsFor, StandsNow}
-use Rattle.air_rehearsal.specs.Stations.{Role, Station, acts, client_at, looks_on, role_of, the_server, waiting_after}
-use Rattle.air_rehearsal.specs.Worlds.{PlaysParty}
-use Rattle.air_rehearsal.specs.declared.party.Party.{Party as StoredParty}
-use Rattle.air_rehearsal.specs.declared.stations.Stations.{Stations}
+use Rattle.air_rehearsal.specs.Standing.{StandsFor}
+use Rattle.air_rehearsal.proofs.Names.{ℕ, List, length, slice_get, is_some, false, true, Option, None, Some, refl, same_Some, Cuts, Ghosts, Lists, WorldStep, SoundLaw, Event, PartyAt, World, DiskStep, Stage, StepBy, Bench, GoesOn, IsBench, IsStage, client_count, counts_with, Tells, KeepsClients, Report, CountsCut, ServesEvent, serving, waiting_of, StandsNow, Role, Station, acts, client_at, looks_on, role_of, the_server, waiting_after, PlaysParty, Party as StoredParty, Stations}
 use Rattle.air_rehearsal.proofs.BenchLemmas.{kept_count, kept_from, one_at, played_at}
 
 -- a disk on which a client's notes stand, where another world's client has the same

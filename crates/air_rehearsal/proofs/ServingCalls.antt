@@ -1,16 +1,8 @@
 -- Equal calls are found equal, and a frame is sent to the client that it is for.
 use Rattle.std.proofs.Common.{◌≡◌, ◌==◌, ◌&&◌, [], ◌∷◌, Bool, true, false, refl, sym, ap, subst}
 use Rattle.std.specs.Prelude.{if◌then◌else◌}
-use Rattle.std.specs.Str.{bytes_eq}
-use Rattle.std.proofs.lemmas.Bool.Decides.{Decides-eqb}
-use Rattle.std.proofs.lemmas.Slice.Eq.{bytes_eq-Decides}
-use Rattle.px_base.specs.CallSign.{CallSign}
-use Rattle.ax25_frames.specs.FrameText.{FrameValue}
-use Rattle.ftl0_session.specs.Uploads.Session.{is_same_call}
-use Rattle.air_rehearsal.specs.Lanes.{HasLanes, Lanes, timing, timing_each}
-use Rattle.air_rehearsal.specs.ServerCalls.{IsTimed}
 use Rattle.air_rehearsal.specs.declared.attempt.Attempt.{Attempt}
-use Rattle.air_rehearsal.specs.declared.party.Party.{Party}
+use Rattle.air_rehearsal.proofs.Names.{bytes_eq, Decides-eqb, bytes_eq-Decides, CallSign, FrameValue, is_same_call, HasLanes, Lanes, timing, timing_each, IsTimed, Party}
 
 pub same-call : (one other : CallSign) → one ≡ other
     → (bytes_eq one.chars other.chars && (one.ssid == other.ssid)) ≡ true

@@ -1,9 +1,6 @@
 -- Arming counts no failed write.
 use Rattle.std.proofs.Common.{◌≡◌, Option, None, Some, ap}
-use Rattle.disk_model.specs.Cuts.{Cuts}
-use Rattle.disk_model.specs.declared.disk.Disk.{Ghosts}
-use Rattle.air_rehearsal.specs.ServerCalls.{ArmsFor}
-use Rattle.air_rehearsal.specs.declared.cuts.Cut.{Cut}
+use Rattle.air_rehearsal.proofs.Names.{Cuts, Ghosts, ArmsFor, Cut}
 
 pub arms-count : {B : Type 0} (g : Ghosts B) (cuts : Cuts B) (cut : Option Cut) (disk armed : B)
     → ArmsFor g cuts cut disk armed → g.write_faults armed ≡ g.write_faults disk

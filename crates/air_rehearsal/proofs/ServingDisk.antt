@@ -2,37 +2,13 @@
 use Rattle.std.proofs.Common.{◌≡◌, ℕ, ◌<◌, ◌≤◌, Bool, true, false, List, [], ◌∷◌}
 use Rattle.std.proofs.Common.{◌++◌, length, Option, None, Some, IfSome, Result, Ok, Err, refl, sym, ap, subst, ◌∙◌, inl, inr}
 use Rattle.std.proofs.Common.{arith, length-append}
-use Rattle.std.specs.Prelude.{◌&&◌, ◌||◌, is_ok, ⊤}
-use Rattle.std.proofs.lemmas.Bool.{cases_Bool}
+use Rattle.std.specs.Prelude.{◌&&◌, ◌||◌}
 use Rattle.px_base.specs.Outside.{Rose}
-use Rattle.disk_model.specs.AtDisk.{AtDisk, at}
 use Rattle.disk_model.specs.CutLaws.{reads_stay}
-use Rattle.disk_model.specs.Cuts.{Arming, Cuts, Failed, FailsSo, LastsSo, Passes, UsesUp, cut_state}
-use Rattle.disk_model.specs.Disk.{IsTold}
-use Rattle.disk_model.specs.declared.disk.Disk.{Ghosts}
-use Rattle.disk_model.specs.declared.disk.DiskFault.{DiskFault}
-use Rattle.file_entries.specs.Command.{Command, DropsNothing, after_all}
 use Rattle.file_journal.specs.AmongReads.{CountsSome, among_reads}
-use Rattle.file_journal.specs.Calls.{EachImage, Leaves, TellsAlike, images_now}
-use Rattle.file_journal.specs.Kept.{HasRoomFor}
-use Rattle.file_journal.proofs.Offered.{at_told, cut_makes, told_weaker, weaker}
-use Rattle.file_store.specs.OnDisk.{MakesBetween, MakesFirst, after_first, kept_at}
-use Rattle.file_store.specs.State.{IsReady, StandsFor, StoreState, store_form, store_on}
-use Rattle.file_store.specs.Store.{Store}
+use Rattle.file_store.specs.State.{StandsFor}
 use Rattle.file_store.specs.Working.{CutsOffAmongReads, DoesAmongReads}
-use Rattle.file_store.proofs.Offered.{after_first-all, cuts-among-all, makes-first, makes-within, room_for}
-use Rattle.ftl0_session.specs.Uploads.Failures.{Failure, NoReadFails, failed_reads, failed_write}
-use Rattle.ftl0_server.specs.Calls.{Hears}
-use Rattle.ftl0_server.specs.Server.{Server, ServerHappened}
-use Rattle.ftl0_server.specs.ServerState.{IsServer, ServerState}
-use Rattle.ftl0_server.specs.ServerStep.{happening}
-use Rattle.node.specs.Events.{NodeEvent}
-use Rattle.server_laws.specs.Misses.{FrontOfEventLaw, MissesLaw, begun_in}
-use Rattle.air_files.specs.SoundStore.{NoneGone}
-use Rattle.air_world.specs.World.{World}
-use Rattle.air_rehearsal.specs.Standing.{StandsNow, least_done}
-use Rattle.air_rehearsal.specs.Stations.{the_server}
-use Rattle.air_rehearsal.specs.Worlds.{IsSteady}
+use Rattle.air_rehearsal.proofs.Names.{is_ok, ⊤, cases_Bool, AtDisk, at, Arming, Cuts, Failed, FailsSo, LastsSo, Passes, UsesUp, cut_state, IsTold, Ghosts, DiskFault, Command, DropsNothing, after_all, EachImage, Leaves, TellsAlike, images_now, HasRoomFor, at_told, cut_makes, told_weaker, weaker, MakesBetween, MakesFirst, after_first, kept_at, IsReady, StoreState, store_form, store_on, Store, after_first-all, cuts-among-all, makes-first, makes-within, room_for, Failure, NoReadFails, failed_reads, failed_write, Hears, Server, ServerHappened, IsServer, ServerState, happening, NodeEvent, FrontOfEventLaw, MissesLaw, begun_in, NoneGone, World, StandsNow, least_done, the_server, IsSteady}
 use Rattle.air_rehearsal.proofs.PartLemmas.{least_most}
 
 pub told-content : (content : Option (List ℕ)) → IsTold content → (octets : List ℕ) × (content ≡ Some octets)

@@ -1,35 +1,9 @@
 -- What a frame that the server hears, and what a tick, make of the clients that stations play.
 use Rattle.std.proofs.Common.{◌≡◌, ◌≢◌, ◌⊎◌, ℕ, suc, ◌<◌, List, [], ◌∷◌, length, Some, false, refl, sym, ap, subst}
 use Rattle.std.proofs.Common.{◌%◌, ◌^◌, ◌∙◌, inl, inr, arith}
-use Rattle.std.specs.Prelude.{filter, is_some, slice_get, slice_set}
-use Rattle.std.proofs.lemmas.List.{length-set}
-use Rattle.std.proofs.lemmas.Option.{same_Some, slice_get_within}
-use Rattle.px_base.specs.CallSign.{CallSign}
-use Rattle.ax25_frames.specs.FrameText.{FrameValue}
-use Rattle.ax25_link.specs.Air.{IsAt, Transmission, delivering}
-use Rattle.ftl0_session.specs.Uploads.Session.{is_same_call}
-use Rattle.ftl0_server.specs.Server.{Server}
-use Rattle.ftl0_server.specs.ServerStep.{Empties, happening}
-use Rattle.ftl0_client.specs.Client.{Client}
-use Rattle.ftl0_client.specs.ClientState.{ClientState, IsClient}
-use Rattle.node.specs.Events.{IsFor, NodeEvent, ticks}
-use Rattle.air_attempt.specs.Attempt.{Attempt, IsAttempt, IsFromTo}
-use Rattle.air_attempt.specs.Party.{Party, newest, to_server_delivered, with_newest}
-use Rattle.air_attempt.specs.Transfers.{ServerDid}
-use Rattle.air_attempt.proofs.Offered.{all-at}
-use Rattle.air_world.specs.Events.{DeliversToServer, with_current}
-use Rattle.air_world.specs.Lawful.{IsAllowed}
-use Rattle.air_world.specs.Schedule.{tick_server, to_server}
-use Rattle.air_world.specs.Sound.{Sound}
-use Rattle.air_world.specs.Step.{ServerGoes}
-use Rattle.air_world.specs.World.{PartyAt, World, next_moment}
-use Rattle.air_rehearsal.specs.LaneLaws.{HearingLanesLaw, TickingLanesLaw}
-use Rattle.air_rehearsal.specs.Lanes.{HasLanes, IsLane, Lanes, lanes_by, lanes_of, replying_each, timing_each}
-use Rattle.air_rehearsal.specs.ServerCalls.{AreTimed}
-use Rattle.air_rehearsal.specs.Worlds.{PlayParties, PlaysParty}
+use Rattle.air_attempt.specs.Party.{Party}
 use Rattle.air_rehearsal.specs.declared.attempt.Attempt.{Attempt as StoredAttempt}
-use Rattle.air_rehearsal.specs.declared.lane.Lane.{Lane}
-use Rattle.air_rehearsal.specs.declared.party.Party.{Party as StoredParty}
+use Rattle.air_rehearsal.proofs.Names.{filter, is_some, slice_get, slice_set, length-set, same_Some, slice_get_within, CallSign, FrameValue, IsAt, Transmission, delivering, is_same_call, Server, Empties, happening, Client, ClientState, IsClient, IsFor, NodeEvent, ticks, Attempt, IsAttempt, IsFromTo, newest, to_server_delivered, with_newest, ServerDid, all-at, DeliversToServer, with_current, IsAllowed, tick_server, to_server, Sound, ServerGoes, PartyAt, World, next_moment, HearingLanesLaw, TickingLanesLaw, HasLanes, IsLane, Lanes, lanes_by, lanes_of, replying_each, timing_each, AreTimed, PlayParties, PlaysParty, Lane, Party as StoredParty}
 use Rattle.air_rehearsal.proofs.PairLemmas.{set_at}
 use Rattle.air_rehearsal.proofs.ServingParties.{at-place, plays-both, plays-each, plays-length}
 use Rattle.air_rehearsal.proofs.ServingWorld.{SameButAttempts, after-at, after-length, did, goes, next}

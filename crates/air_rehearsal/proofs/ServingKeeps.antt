@@ -1,21 +1,7 @@
 -- Where nothing of the clients changes but what was sent.
 use Rattle.std.proofs.Common.{◌≡◌, ◌≢◌, ◌⊎◌, ℕ, zero, suc, ◌+◌, ◌<◌, Bool, true, false, List, [], ◌∷◌, ◌++◌, length, Some}
 use Rattle.std.proofs.Common.{refl, sym, ap, subst, ◌∙◌, inl, inr, arith}
-use Rattle.std.specs.Prelude.{filter, slice_get, slice_set}
-use Rattle.std.proofs.lemmas.List.{length-set}
-use Rattle.std.proofs.lemmas.Option.{same_Some, slice_get_within}
-use Rattle.px_base.specs.CallSign.{CallSign}
-use Rattle.ax25_frames.specs.FrameText.{FrameText, FrameValue}
-use Rattle.ftl0_session.specs.Uploads.Session.{is_same_call}
-use Rattle.file_store.specs.Store.{Store}
-use Rattle.ftl0_server.specs.Calls.{HandsOutNext}
-use Rattle.ftl0_server.specs.Server.{Server, settled}
-use Rattle.ftl0_server.specs.ServerState.{IsServer, ServerState}
-use Rattle.air_rehearsal.specs.Lanes.{HasLanes, Lanes, timing_each}
-use Rattle.air_rehearsal.specs.Ready.{KeepParties, KeepsAllButLanes, KeepsClients}
-use Rattle.air_rehearsal.specs.ServerCalls.{AreTimed, IsTimed, SendsByTimer}
-use Rattle.air_rehearsal.specs.declared.party.Party.{Party}
-use Rattle.air_rehearsal.specs.declared.stations.Stations.{Stations}
+use Rattle.air_rehearsal.proofs.Names.{filter, slice_get, slice_set, length-set, same_Some, slice_get_within, CallSign, FrameText, FrameValue, is_same_call, Store, HandsOutNext, Server, settled, IsServer, ServerState, HasLanes, Lanes, timing_each, KeepParties, KeepsAllButLanes, KeepsClients, AreTimed, IsTimed, SendsByTimer, Party, Stations}
 use Rattle.air_rehearsal.proofs.PairLemmas.{set_at}
 use Rattle.air_rehearsal.proofs.ServingParties.{at-place}
 use Rattle.air_rehearsal.proofs.ServingSent.{SendsEach, filter-more, has-sent, is-silent, sends-empties, sends-more}

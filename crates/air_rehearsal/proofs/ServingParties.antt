@@ -1,11 +1,8 @@
 -- The clients that stations play, one after another, and where one of them, or what was sent to each, is changed.
 use Rattle.std.proofs.Common.{◌≡◌, ℕ, zero, suc, ◌<◌, List, [], ◌∷◌, length, Some, refl, sym, ap, subst, ◌∙◌}
 use Rattle.std.proofs.Common.{arith}
-use Rattle.std.specs.Prelude.{slice_get, map}
-use Rattle.std.proofs.lemmas.Option.{same_Some}
 use Rattle.air_attempt.specs.Party.{Party}
-use Rattle.air_rehearsal.specs.Worlds.{PlayParties, PlaysParty}
-use Rattle.air_rehearsal.specs.declared.party.Party.{Party as StoredParty}
+use Rattle.air_rehearsal.proofs.Names.{slice_get, map, same_Some, PlayParties, PlaysParty, Party as StoredParty}
 
 pub at-place : {X : Type 0} (xs : List X) (i : ℕ) → i < length xs → (x : X) × (slice_get xs i ≡ Some x)
 at-place [] i within = absurd (let no : ⊥ = omega arith in no)

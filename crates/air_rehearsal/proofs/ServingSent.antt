@@ -1,16 +1,11 @@
 -- What a server has sent, frame by frame.
 use Rattle.std.proofs.Common.{◌≡◌, ℕ, Bool, true, false, List, [], ◌∷◌, ◌++◌, Option, None, Some, refl, sym, ap, subst}
 use Rattle.std.proofs.Common.{◌∙◌}
-use Rattle.std.specs.Prelude.{filter, if◌then◌else◌, IfOk, Result, Ok, Err, OnOk}
-use Rattle.ax25_frames.specs.FrameText.{FrameText, FrameValue}
-use Rattle.file_store.specs.Store.{Store}
-use Rattle.ftl0_server.specs.Calls.{HandsOut, HandsOutNext}
-use Rattle.ftl0_server.specs.Server.{IsSilent, Server, ServerSends, server_next, settled}
-use Rattle.ftl0_server.specs.ServerState.{IsServer, ServerState}
-use Rattle.ftl0_server.specs.ServerStep.{Empties}
-use Rattle.air_rehearsal.specs.Lanes.{HasLanes, Lanes, replying, replying_each, timing, timing_each}
-use Rattle.air_rehearsal.specs.ServerCalls.{SendsReplies}
+use Rattle.std.specs.Prelude.{if◌then◌else◌}
+use Rattle.ftl0_server.specs.Calls.{HandsOut}
+use Rattle.ftl0_server.specs.Server.{IsSilent}
 use Rattle.air_rehearsal.specs.declared.attempt.Attempt.{Attempt}
+use Rattle.air_rehearsal.proofs.Names.{filter, IfOk, Result, Ok, Err, OnOk, FrameText, FrameValue, Store, HandsOutNext, Server, ServerSends, server_next, settled, IsServer, ServerState, Empties, HasLanes, Lanes, replying, replying_each, timing, timing_each, SendsReplies}
 
 -- The server sends these frames one after another, and is this one then.
 abbrev pub SendsEach : Server → List FrameValue → Server → Type 0

@@ -1,30 +1,7 @@
 -- The frame that comes to the server is the one that the world delivers.
 use Rattle.std.proofs.Common.{◌≡◌, ℕ, zero, suc, ◌<◌, List, [], ◌∷◌, length, Some, Result, refl, sym, ap, subst, ◌∙◌, true}
-use Rattle.std.specs.Prelude.{is_some, slice_get, slice_set, Option, ⊤}
-use Rattle.std.proofs.lemmas.Option.{slice_get_within}
-use Rattle.ax25_frames.specs.FrameText.{FrameValue}
-use Rattle.ax25_link.specs.Air.{IsAt, Transmission, delivering}
-use Rattle.ax25_link.specs.Window.{window_of}
-use Rattle.disk_model.specs.declared.disk.Disk.{Ghosts}
-use Rattle.disk_model.specs.declared.disk.DiskFault.{DiskFault}
-use Rattle.file_store.specs.State.{IsKnown}
-use Rattle.ftl0_server.specs.Calls.{Hears, HearsEvent}
-use Rattle.ftl0_server.specs.Server.{server_hearing}
-use Rattle.node.specs.Events.{IsFor, hears}
-use Rattle.air_attempt.specs.Attempt.{Attempt}
-use Rattle.air_attempt.specs.Party.{Party, newest, to_server_delivered}
-use Rattle.air_world.specs.Events.{with_current}
-use Rattle.air_world.specs.Lawful.{IsAllowed}
-use Rattle.air_world.specs.Schedule.{to_server}
-use Rattle.air_world.specs.Sound.{Sound}
-use Rattle.air_world.specs.World.{PartyAt, World, next_moment, with_party}
-use Rattle.air_rehearsal.specs.Lanes.{HasLanes, IsLane, lanes_by}
-use Rattle.air_rehearsal.specs.ServerCalls.{IsTaken}
-use Rattle.air_rehearsal.specs.ServerEvents.{Serving}
-use Rattle.air_rehearsal.specs.Worlds.{PlayParties, PlaysWorld, asked_from}
-use Rattle.air_rehearsal.specs.declared.cuts.Cut.{Cut}
-use Rattle.air_rehearsal.specs.declared.lane.Lane.{Lane}
-use Rattle.air_rehearsal.specs.declared.party.Party.{Party as StoredParty}
+use Rattle.air_attempt.specs.Party.{Party}
+use Rattle.air_rehearsal.proofs.Names.{is_some, slice_get, slice_set, Option, ⊤, slice_get_within, FrameValue, IsAt, Transmission, delivering, window_of, Ghosts, DiskFault, IsKnown, Hears, HearsEvent, server_hearing, IsFor, hears, Attempt, newest, to_server_delivered, with_current, IsAllowed, to_server, Sound, PartyAt, World, next_moment, with_party, HasLanes, IsLane, lanes_by, IsTaken, Serving, PlayParties, PlaysWorld, asked_from, Cut, Lane, Party as StoredParty}
 use Rattle.air_rehearsal.proofs.ServingHeard.{for-server, plays-changed, plays-delivered}
 use Rattle.air_rehearsal.proofs.ServingParties.{plays-both, plays-length}
 

@@ -1,39 +1,13 @@
 -- The next world behind an event of the server, whether it is cut or not.
 use Rattle.std.proofs.Common.{◌≡◌, ℕ, Bool, true, false, List, [], ◌∷◌, length}
 use Rattle.std.proofs.Common.{Option, None, Some, refl, sym, ap, subst, ◌∙◌}
-use Rattle.std.specs.Prelude.{◌&&◌, map, slice_get, if◌then◌else◌}
-use Rattle.std.specs.Option.{option_map}
-use Rattle.std.proofs.lemmas.List.{length-map}
-use Rattle.std.proofs.lemmas.Option.{same_Some}
-use Rattle.ax25_frames.specs.FrameText.{FrameValue}
-use Rattle.ax25_link.specs.Rows.{is_call}
-use Rattle.disk_model.specs.declared.disk.Disk.{Ghosts}
-use Rattle.file_entries.specs.Command.{Command, after, after_all, begin, drop_entry, grow, seal}
-use Rattle.file_journal.specs.Calls.{Leaves}
-use Rattle.file_journal.proofs.Offered.{told_weaker, weaker}
-use Rattle.file_store.specs.OnDisk.{MakesFirst}
-use Rattle.file_store.specs.Store.{Store}
-use Rattle.ftl0_session.specs.Uploads.Failures.{Failure}
-use Rattle.ftl0_session.specs.Uploads.Session.{is_same_call}
-use Rattle.ftl0_server.specs.Server.{Refused, Server, ServerSends, called_by, hearing_at, hearing_by, hearing_stranger}
-use Rattle.ftl0_server.specs.Server.{sends_by, sends_of_places, server_next, settled}
-use Rattle.ftl0_server.specs.ServerStep.{Empties, happening, stepped}
-use Rattle.ftl0_server.specs.Slots.{PlacesSend, Slot, connected, first_empty, free, leaving, place_of, places_next}
-use Rattle.node.specs.Events.{NodeEvent, hears, ticks}
-use Rattle.air_attempt.specs.Attempt.{Attempt}
-use Rattle.air_attempt.specs.Party.{Party, all_over, over, sessions_over}
-use Rattle.air_attempt.specs.Transfers.{ServerDid, after_hearing}
-use Rattle.air_world.specs.Cuts.{server_commands}
-use Rattle.air_world.specs.Events.{ServerTakes}
-use Rattle.air_world.specs.Schedule.{Event}
-use Rattle.air_world.specs.Sound.{Sound}
-use Rattle.air_world.specs.Step.{ServerGoes, parties_after, party_heard, party_ticked}
-use Rattle.air_world.specs.World.{World, counted, next_moment}
-use Rattle.air_rehearsal.specs.Lanes.{HasLanes, Lanes, lanes_by, lanes_of}
-use Rattle.air_rehearsal.specs.Standing.{StandsDuring}
-use Rattle.air_rehearsal.specs.Stations.{the_server}
-use Rattle.air_rehearsal.specs.Worlds.{PlayParties, PlaysParty}
-use Rattle.air_rehearsal.specs.declared.party.Party.{Party as StoredParty}
+use Rattle.std.specs.Prelude.{◌&&◌, if◌then◌else◌}
+use Rattle.file_entries.specs.Command.{after}
+use Rattle.ftl0_server.specs.Server.{Refused}
+use Rattle.ftl0_server.specs.Server.{sends_by}
+use Rattle.ftl0_server.specs.Slots.{place_of}
+use Rattle.air_attempt.specs.Party.{Party}
+use Rattle.air_rehearsal.proofs.Names.{map, slice_get, option_map, length-map, same_Some, FrameValue, is_call, Ghosts, Command, after_all, begin, drop_entry, grow, seal, Leaves, told_weaker, weaker, MakesFirst, Store, Failure, is_same_call, Server, ServerSends, called_by, hearing_at, hearing_by, hearing_stranger, sends_of_places, server_next, settled, Empties, happening, stepped, PlacesSend, Slot, connected, first_empty, free, leaving, places_next, NodeEvent, hears, ticks, Attempt, all_over, over, sessions_over, ServerDid, after_hearing, server_commands, ServerTakes, Event, Sound, ServerGoes, parties_after, party_heard, party_ticked, World, counted, next_moment, HasLanes, Lanes, lanes_by, lanes_of, StandsDuring, the_server, PlayParties, PlaysParty, Party as StoredParty}
 use Rattle.air_rehearsal.proofs.ServingParties.{at-mapped, plays-both, plays-each, plays-length}
 
 -- ---- what stays of a server

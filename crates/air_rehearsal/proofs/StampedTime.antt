@@ -1,17 +1,8 @@
 -- The moment that a stamped upload says of itself, and that it may be stamped with that as well.
 use Rattle.std.proofs.Common.{◌≡◌, ℕ, ◌/◌, ◌%◌, List, [], ◌∷◌, ◌++◌, map, Option, None, Some, refl, ap, ◌∙◌, arith}
 use Rattle.std.specs.Prelude.{if◌then◌else◌}
-use Rattle.px_base.specs.CallSign.{CallSign, IsCall}
-use Rattle.px_base.specs.Numbers.{le32, le32_octets}
-use Rattle.pfh_items.specs.Faults.{fault_code, file_parts}
-use Rattle.pfh_items.specs.Layout.{FileText, HeaderValue, ItemValue, header_text}
-use Rattle.pfh_items.specs.Stamp.{StampValue, is_number_item, is_upload_time_item, is_uploader_item, renewed, stamped}
-use Rattle.pfh_items.specs.Stamp.{stamped_item, stamped_items, stamped_parts}
-use Rattle.pfh_items.proofs.Offered.{AreItems-stamped_items, stamped-text}
-use Rattle.pfh_writer.specs.Built.{built_items, mandatory_saying}
-use Rattle.air_files.specs.Uploads.{body_octets, file_header, upload_file}
 use Rattle.air_world.proofs.GoodFile.{upload-text}
-use Rattle.air_rehearsal.specs.Ending.{IsStampedFor, IsUpload, moment_in}
+use Rattle.air_rehearsal.proofs.Names.{CallSign, IsCall, le32, le32_octets, fault_code, file_parts, FileText, HeaderValue, ItemValue, header_text, StampValue, is_number_item, is_upload_time_item, is_uploader_item, renewed, stamped, stamped_item, stamped_items, stamped_parts, AreItems-stamped_items, stamped-text, built_items, mandatory_saying, body_octets, file_header, upload_file, IsStampedFor, IsUpload, moment_in}
 
 -- the moment that four octets say has these octets
 said-again : (moment : ℕ) → le32_octets (le32 (le32_octets moment) 0) ≡ le32_octets moment

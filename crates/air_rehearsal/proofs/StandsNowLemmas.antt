@@ -1,15 +1,9 @@
 -- What is ready on its disk stands there.
-use Rattle.std.specs.Prelude.{◌≡◌, ℕ, List, false, true, Option, None, Some, IfSome, refl}
+use Rattle.std.specs.Prelude.{◌≡◌}
 use Rattle.std.proofs.Common.{subst}
-use Rattle.disk_model.specs.Disk.{IsTold}
-use Rattle.disk_model.specs.declared.disk.Disk.{Ghosts}
-use Rattle.file_journal.specs.Calls.{EachImage, images_now}
-use Rattle.client_notes.specs.Notes.{Lists}
 use Rattle.client_notes.specs.State as notes
 use Rattle.air_attempt.specs.Party.{Party}
-use Rattle.air_world.specs.World.{PartyAt, World}
-use Rattle.air_rehearsal.specs.Standing.{StandsNow}
-use Rattle.air_rehearsal.specs.Stations.{client_at}
+use Rattle.air_rehearsal.proofs.Names.{ℕ, List, false, true, Option, None, Some, IfSome, refl, IsTold, Ghosts, EachImage, images_now, Lists, PartyAt, World, StandsNow, client_at}
 
 pub told_content : (content : Option (List ℕ)) → IsTold content → (octets : List ℕ) × (content ≡ Some octets)
 told_content None told = absurd (let e : false ≡ true = told in cc)

@@ -1,21 +1,8 @@
 -- Where memory was wanting, a crash leaves what stands for the station's world, or for that after the first of the
 -- event's commands.
-use Rattle.std.specs.Prelude.{◌≡◌, ◌⊎◌, ℕ, ◌-◌, ◌≤◌, List, [], ◌∷◌, ◌++◌, true, false, Option, None, Some, IfSome, refl}
-use Rattle.std.specs.Option.{option_map}
+use Rattle.std.specs.Prelude.{◌≡◌, ◌⊎◌, ◌-◌, ◌≤◌, ◌∷◌, ◌++◌}
 use Rattle.std.proofs.Common.{inl, inr, sym, ◌∙◌, subst, ap, arith}
-use Rattle.disk_model.specs.Cuts.{ArmsOnly, Cuts, LastsSo, cut_state}
-use Rattle.disk_model.specs.Disk.{IsTold}
-use Rattle.disk_model.specs.Moments.{LeavesOnly}
-use Rattle.disk_model.specs.declared.disk.Disk.{Ghosts}
-use Rattle.file_journal.specs.Calls.{Leaves, TellsAlike, images_now}
-use Rattle.air_world.specs.Schedule.{Event}
-use Rattle.air_rehearsal.specs.Chain.{CarriesOut, Stage}
-use Rattle.air_rehearsal.specs.Halfway.{FailsToCut, IsHalfway, StopsBy, StopsCutOff, StopsCutting, StopsRestarting}
-use Rattle.air_rehearsal.specs.Halfway.{TriesToOpen, TriesToStart, WhereRead}
-use Rattle.air_rehearsal.specs.Rehearsed.{EndsHalf, StandsAmid}
-use Rattle.air_rehearsal.specs.Standing.{StandsAlike, StandsDuring, StandsNow}
-use Rattle.air_rehearsal.specs.Stations.{Role, Station, acts, breaks_off, client_at, looks_on, role_of, the_server}
-use Rattle.air_rehearsal.specs.Stations.{will_be_cut}
+use Rattle.air_rehearsal.proofs.Names.{ℕ, List, [], true, false, Option, None, Some, IfSome, refl, option_map, ArmsOnly, Cuts, LastsSo, cut_state, IsTold, LeavesOnly, Ghosts, Leaves, TellsAlike, images_now, Event, CarriesOut, Stage, FailsToCut, IsHalfway, StopsBy, StopsCutOff, StopsCutting, StopsRestarting, TriesToOpen, TriesToStart, WhereRead, EndsHalf, StandsAmid, StandsAlike, StandsDuring, StandsNow, Role, Station, acts, breaks_off, client_at, looks_on, role_of, the_server, will_be_cut}
 
 octets_of : (content : Option (List ℕ)) → IsTold content → (octets : List ℕ) × (content ≡ Some octets)
 octets_of None told = absurd (let e : false ≡ true = told in cc)

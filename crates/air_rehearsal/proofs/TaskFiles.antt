@@ -1,15 +1,8 @@
 -- The file of a client's task, by the uploads that were asked.
 use Rattle.std.proofs.Common.{◌≡◌, ℕ, ◌-◌, ◌≤◌, ◌==◌, List, Option, None, Some, sym, ap, ◌∙◌, arith}
 use Rattle.std.specs.List.{slice_get}
-use Rattle.std.specs.Option.{option_and_then, option_map}
-use Rattle.std.proofs.lemmas.Bool.{cond-false, ne_eqb}
-use Rattle.air_attempt.specs.Party.{Asked, Party, file_of_task, upload_of}
-use Rattle.air_files.specs.Uploads.{upload_file}
-use Rattle.air_world.specs.World.{World}
-use Rattle.air_rehearsal.specs.Worlds.{PlaysStations}
-use Rattle.air_rehearsal.specs.declared.asking.Upload.{Upload}
-use Rattle.air_rehearsal.specs.declared.party.Party.{Party as StoredParty}
-use Rattle.air_rehearsal.specs.declared.stations.Stations.{Stations}
+use Rattle.air_attempt.specs.Party.{Party}
+use Rattle.air_rehearsal.proofs.Names.{option_and_then, option_map, cond-false, ne_eqb, Asked, file_of_task, upload_of, upload_file, World, PlaysStations, Upload, Party as StoredParty, Stations}
 use Rattle.air_rehearsal.proofs.PartiesLemmas.{file-at, no-file}
 
 module _ (stored : StoredParty) (party : Party) (same : stored.uploads.items ≡ party.uploads) (task : ℕ)

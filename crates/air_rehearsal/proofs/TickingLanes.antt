@@ -1,37 +1,12 @@
 -- What the server sends at a tick makes of the transmissions of each client's current attempt.
 use Rattle.std.proofs.Common.{◌≡◌, ◌≢◌, ℕ, List, [], ◌∷◌, ◌++◌, Bool, true, false, filter, map, Option, None, Some}
 use Rattle.std.proofs.Common.{refl, sym, ap, ap₂, subst, ◌∙◌}
-use Rattle.std.specs.Prelude.{slice_get}
-use Rattle.std.specs.List.{AllByRecursion}
-use Rattle.std.specs.Option.{option_map, option_or}
-use Rattle.std.proofs.lemmas.Option.{same_Some, slice_get-map}
-use Rattle.px_base.specs.CallSign.{CallSign}
 use Rattle.ax25_link.specs.LinkStep as step
 use Rattle.ax25_link.specs.Stations.{Stations}
-use Rattle.ax25_link.specs.Window.{window_of}
-use Rattle.ax25_link.proofs.Offered.{stations_law}
-use Rattle.node.specs.Events.{ticks}
-use Rattle.ftl0_session.specs.Uploads.Session.{is_same_call}
-use Rattle.ftl0_server.specs.Connection.Connected.{Connected, caller_of}
-use Rattle.ftl0_server.specs.Connection.Hearing.{ticking}
-use Rattle.ftl0_server.specs.Server.{Refused, Server}
-use Rattle.ftl0_server.specs.Slots.{Slot, all_freed, connected, free, leaving, left_by, slot_ticking}
-use Rattle.server_laws.specs.Places.{StepLaw, refusals}
+use Rattle.ftl0_server.specs.Server.{Refused}
 use Rattle.server_laws.proofs.Offered.{silent-by}
-use Rattle.air_attempt.specs.Attempt.{Attempt, IsAttempt, IsEndOf}
-use Rattle.air_attempt.specs.Laws.{IsBetween}
-use Rattle.air_attempt.specs.Party.{Party, newest_side}
-use Rattle.air_attempt.specs.Sides.{ServerSide}
-use Rattle.air_attempt.specs.Transfers.{ServerDid, connection_of, did_to, ticked_by}
-use Rattle.air_attempt.proofs.Offered.{all-at, all-by, each-map, some-at}
-use Rattle.air_world.specs.Cuts.{ServerDoes}
-use Rattle.air_world.specs.Laws.{SoundLaw}
-use Rattle.air_world.specs.Schedule.{tick_server}
-use Rattle.air_world.specs.Sound.{Sound}
-use Rattle.air_world.specs.Step.{ServerGoes, party_ticked}
-use Rattle.air_world.specs.World.{PartyAt, World, next_moment}
-use Rattle.air_rehearsal.specs.LaneLaws.{TickingLanesLaw}
-use Rattle.air_rehearsal.specs.Lanes.{lanes_of, timing_each}
+use Rattle.air_attempt.specs.Party.{Party}
+use Rattle.air_rehearsal.proofs.Names.{slice_get, AllByRecursion, option_map, option_or, same_Some, slice_get-map, CallSign, window_of, stations_law, ticks, is_same_call, Connected, caller_of, ticking, Server, Slot, all_freed, connected, free, leaving, left_by, slot_ticking, StepLaw, refusals, Attempt, IsAttempt, IsEndOf, IsBetween, newest_side, ServerSide, ServerDid, connection_of, did_to, ticked_by, all-at, all-by, each-map, some-at, ServerDoes, SoundLaw, tick_server, Sound, ServerGoes, party_ticked, PartyAt, World, next_moment, TickingLanesLaw, lanes_of, timing_each}
 use Rattle.air_rehearsal.proofs.CallersSeat.{connection-seat, freed-seat, seat-found, seat-none}
 use Rattle.air_rehearsal.proofs.FramesTo.{HasNone, places-none, to_station}
 use Rattle.air_rehearsal.proofs.SaidLanes.{IsServed, times}

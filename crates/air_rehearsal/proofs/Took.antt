@@ -1,36 +1,8 @@
 -- A client that took part, or was broken off, in whichever world is played.
-use Rattle.std.specs.Prelude.{◌≡◌, ℕ, zero, suc, ◌+◌, ◌≤◌, List, [], ◌∷◌, slice_get, is_some, false, Bool}
-use Rattle.std.specs.Prelude.{Option, None, Some, IfSome, refl}
+use Rattle.std.specs.Prelude.{◌≡◌, ◌+◌, ◌≤◌, ◌∷◌}
 use Rattle.std.proofs.Common.{sym, ap, ◌∙◌, subst, arith}
-use Rattle.std.proofs.lemmas.Option.{same_Some}
-use Rattle.disk_model.specs.Cuts.{Cuts}
-use Rattle.disk_model.specs.declared.disk.Disk.{Ghosts}
-use Rattle.file_journal.proofs.Offered.{told_weaker}
-use Rattle.file_journal.specs.Calls.{images_now}
-use Rattle.ftl0_server.specs.ServerState.{ServerState}
-use Rattle.air_attempt.specs.Party.{Asked, Party}
-use Rattle.air_files.specs.Uploads.{upload_name}
-use Rattle.air_world.specs.Cuts.{ClientDoes, WorldStep}
-use Rattle.air_world.specs.Events.{ClientPart, ClientTakes}
-use Rattle.air_world.specs.Laws.{SoundLaw}
-use Rattle.air_world.specs.Lawful.{IsAllowed}
-use Rattle.air_world.specs.Schedule.{Event}
-use Rattle.air_world.specs.Step.{with_asked}
-use Rattle.air_world.specs.World.{PartyAt, World}
-use Rattle.air_rehearsal.specs.Chain.{DiskStep, StepBy}
-use Rattle.air_rehearsal.specs.Counting.{Tells}
-use Rattle.air_rehearsal.specs.Playing.{GoesOn, IsBench, bench_of, counts_with}
-use Rattle.air_rehearsal.specs.Report.{Report}
-use Rattle.air_rehearsal.specs.Seats.{Clients, IsSeated, MayTake, TookPart, with_server}
-use Rattle.air_rehearsal.specs.ServerEvents.{waiting_of}
-use Rattle.air_rehearsal.specs.Standing.{StandsNow}
-use Rattle.air_rehearsal.specs.Stations.{Role, client_at, waiting_after}
-use Rattle.air_rehearsal.specs.TakingPart.{AreNamed, DoesPart, IsPart}
-use Rattle.air_rehearsal.specs.Worlds.{PlaysStations, asked_from}
-use Rattle.air_rehearsal.specs.declared.asking.Upload.{Upload}
-use Rattle.air_rehearsal.specs.declared.cuts.Cut.{Cut}
-use Rattle.air_rehearsal.specs.declared.part.Part.{Part}
-use Rattle.air_rehearsal.specs.declared.stations.Stations.{Stations}
+use Rattle.air_attempt.specs.Party.{Party}
+use Rattle.air_rehearsal.proofs.Names.{ℕ, zero, suc, List, [], slice_get, is_some, false, Bool, Option, None, Some, IfSome, refl, same_Some, Cuts, Ghosts, told_weaker, images_now, ServerState, Asked, upload_name, ClientDoes, WorldStep, ClientPart, ClientTakes, SoundLaw, IsAllowed, Event, with_asked, PartyAt, World, DiskStep, StepBy, Tells, GoesOn, IsBench, bench_of, counts_with, Report, Clients, IsSeated, MayTake, TookPart, with_server, waiting_of, StandsNow, Role, client_at, waiting_after, AreNamed, DoesPart, IsPart, PlaysStations, asked_from, Upload, Cut, Part, Stations}
 use Rattle.air_rehearsal.proofs.BenchLemmas.{plays_at}
 use Rattle.air_rehearsal.proofs.ClientFacts.{clients_event, happens_so, same_client}
 use Rattle.air_rehearsal.proofs.ClientGoes.{does_event, goes_client, set_there, within_of}

@@ -1,8 +1,6 @@
 -- The file that the builder of an upload's header makes.
 use Rattle.std.proofs.Common.{◌≡◌, ℕ, List, [], ◌∷◌, ◌++◌, replicate, ap, ◌∙◌}
-use Rattle.pfh_items.specs.Layout.{FileText, header_text}
-use Rattle.pfh_writer.specs.Built.{BuilderValue, built_items, item}
-use Rattle.air_files.specs.Uploads.{body_octets, file_ext, file_header, file_name, upload_file}
+use Rattle.air_rehearsal.proofs.Names.{FileText, header_text, BuilderValue, built_items, item, body_octets, file_ext, file_header, file_name, upload_file}
 
 -- with these items put
 put_last : ℕ → List ℕ → BuilderValue → BuilderValue

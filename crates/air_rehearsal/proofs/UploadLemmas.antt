@@ -2,55 +2,19 @@
 use Rattle.std.proofs.Common.{◌≡◌, ◌≢◌, ◌⊎◌, ℕ, ◌+◌, ◌-◌, ◌<◌, ◌≤◌, ◌^◌, ◌&&◌, List, [], ◌∷◌, ◌++◌, length, reverse}
 use Rattle.std.proofs.Common.{refl, sym, ap, ◌∙◌, subst, inl, inr, arith, Bool, true, false, Option, None, Some, Result, Ok, Err}
 use Rattle.std.proofs.Common.{get_or, length-append}
-use Rattle.std.specs.Prelude.{IfSome, IsErr, IsErrOf, IsTrue, OnOk, decimal, nat_lt, slice_get, if◌then◌else◌}
-use Rattle.std.specs.Option.{option_map}
-use Rattle.std.specs.Str.{bytes_eq}
-use Rattle.std.proofs.lemmas.Bool.Decides.{Decides-ltb, eqb_tells}
-use Rattle.std.proofs.lemmas.Fmt.{decimal_injective}
-use Rattle.std.proofs.lemmas.List.{get_or-reverse, length-reverse}
+use Rattle.std.specs.Prelude.{if◌then◌else◌}
 use Rattle.std.proofs.lemmas.List.Quantifiers.{position-Some}
-use Rattle.std.proofs.lemmas.Option.{slice_get-get_or, slice_get_within}
-use Rattle.std.proofs.lemmas.Slice.Eq.{bytes_eq-Decides}
-use Rattle.px_base.specs.CallSign.{CallSign}
 use Rattle.sha2.specs.Sha256.{sha256}
-use Rattle.disk_model.specs.Cuts.{Failed}
-use Rattle.disk_model.specs.declared.disk.Disk.{Ghosts}
-use Rattle.disk_model.specs.declared.halt.Halt.{Halt}
 use Rattle.disk_model.specs.declared.halt.Halt.TheVariants as halt
-use Rattle.file_journal.specs.Calls.{EachImage}
-use Rattle.file_journal.specs.Kept.{alone}
-use Rattle.file_journal.proofs.Offered.{cut_makes, room_always, told_weaker, weaker}
-use Rattle.client_notes.specs.Answers.{StartsBy, answer_last, answer_of, fresh_task, start_reaches}
-use Rattle.client_notes.specs.Command.{NotesCommand, after, new_task}
-use Rattle.client_notes.specs.Notes.{Lists, Task, is_task_for, last_task, place_from_end, task_count, task_of}
 use Rattle.client_notes.specs.OnDisk.{Does, IsBeforeOrAfter, Untouched}
-use Rattle.client_notes.specs.Records.{notes_form}
 use Rattle.client_notes.specs.Several as notes
-use Rattle.client_notes.specs.State.{NotesState, StandsFor}
-use Rattle.client_notes.proofs.Offered.{Several-one, one-half}
-use Rattle.client_notes.specs.declared.answers.Begun.{Begun}
 use Rattle.client_notes.specs.declared.answers.Begun.TheVariants as begun
-use Rattle.client_notes.specs.declared.refusals.NotesRefusal.{NotesRefusal}
 use Rattle.client_notes.specs.declared.refusals.NotesRefusal.TheVariants as refusal
-use Rattle.ftl0_job.specs.Table.{JobState, new_job}
-use Rattle.ftl0_job.specs.Upload.{new_upload}
 use Rattle.ftl0_job.specs.declared.work.Work.TheVariants as work
-use Rattle.ftl0_client.specs.Calls.{Becomes}
-use Rattle.ftl0_client.specs.Client.{asking, asks}
-use Rattle.ftl0_client.specs.ClientState.{ClientState, IsClient}
 use Rattle.ftl0_client.specs.ClientStep.{happening}
-use Rattle.air_attempt.specs.Party.{Asked, Party}
+use Rattle.air_attempt.specs.Party.{Party}
 use Rattle.air_files.specs.Tasks.{AreTasks}
-use Rattle.air_files.specs.Uploads.{upload_file}
-use Rattle.air_world.specs.Cuts.{client_commands}
-use Rattle.air_world.specs.Events.{ClientPart}
-use Rattle.air_world.specs.Step.{client_started}
-use Rattle.air_rehearsal.specs.Lanes.{HasLanes, lanes_of}
-use Rattle.air_rehearsal.specs.PartCalls.{BeginsPart, KeepsButNotes, StartsTask, TouchesDisk, TouchesPart, uploads_then}
-use Rattle.air_rehearsal.specs.Ready.{KeepsParty}
-use Rattle.air_rehearsal.specs.Standing.{least_done}
-use Rattle.air_rehearsal.specs.TakingPart.{AreNamed, AsksNext, CarriesPart, HasAll, IsSeat, Seat}
-use Rattle.air_rehearsal.specs.declared.party.Party.{Party as StoredParty}
+use Rattle.air_rehearsal.proofs.Names.{IfSome, IsErr, IsErrOf, IsTrue, OnOk, decimal, nat_lt, slice_get, option_map, bytes_eq, Decides-ltb, eqb_tells, decimal_injective, get_or-reverse, length-reverse, slice_get-get_or, slice_get_within, bytes_eq-Decides, CallSign, Failed, Ghosts, Halt, EachImage, alone, cut_makes, room_always, told_weaker, weaker, StartsBy, answer_last, answer_of, fresh_task, start_reaches, NotesCommand, after, new_task, Lists, Task, is_task_for, last_task, place_from_end, task_count, task_of, notes_form, NotesState, StandsFor, Several-one, one-half, Begun, NotesRefusal, JobState, new_job, new_upload, Becomes, asking, asks, ClientState, IsClient, Asked, upload_file, client_commands, ClientPart, client_started, HasLanes, lanes_of, BeginsPart, KeepsButNotes, StartsTask, TouchesDisk, TouchesPart, uploads_then, KeepsParty, least_done, AreNamed, AsksNext, CarriesPart, HasAll, IsSeat, Seat, Party as StoredParty}
 use Rattle.air_rehearsal.proofs.PartLemmas.{carries_none}
 
 -- ---- no task has the name

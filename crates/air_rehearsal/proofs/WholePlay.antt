@@ -1,32 +1,8 @@
 -- A rehearsal from its first event to its end.
-use Rattle.std.specs.Prelude.{◌≡◌, ℕ, zero, suc, ◌+◌, ◌%◌, ◌^◌, ◌<◌, List, [], ◌∷◌, ◌++◌, length, map, Option, None}
-use Rattle.std.specs.Prelude.{refl}
-use Rattle.std.specs.Prelude.{Bool, false, true}
-use Rattle.std.specs.List.{range_with_len, sum_by}
-use Rattle.std.specs.Option.{option_and_then}
-use Rattle.std.proofs.lemmas.List.Sums.{sum_by-cons}
+use Rattle.std.specs.Prelude.{◌≡◌, ◌+◌, ◌%◌, ◌^◌, ◌<◌, ◌∷◌, ◌++◌}
 use Rattle.std.proofs.Common.{sym, ap, ◌∙◌, subst, arith}
-use Rattle.disk_model.specs.Cuts.{Cuts}
-use Rattle.disk_model.specs.declared.disk.Disk.{Ghosts}
-use Rattle.air_world.specs.Cuts.{ClientDoes, ClientEvent, Plays, ServerDoes, ServerEvent, WorldStep}
-use Rattle.air_world.specs.Events.{ServerTakes}
-use Rattle.air_world.specs.Schedule.{Event, Schedule, ask_download, ask_list, ask_resume}
-use Rattle.air_world.specs.Schedule.{ask_upload, break_client, cut_client, cut_server, tick_client, tick_server}
-use Rattle.air_world.specs.Schedule.{to_client, to_server}
-use Rattle.air_world.specs.World.{World, first_world}
-use Rattle.air_rehearsal.specs.Chain.{Follow, Stage, last_stage}
-use Rattle.air_rehearsal.specs.Counting.{Tells}
-use Rattle.air_rehearsal.specs.Course.{HasPlayed, counts_to}
-use Rattle.air_rehearsal.specs.Playing.{Bench, IsPlaying, IsStage, PlaysEvent, cuts_in, waiting_in}
-use Rattle.air_rehearsal.specs.Played.{first_stage}
-use Rattle.air_rehearsal.specs.Rehearsed.{until}
-use Rattle.air_rehearsal.specs.Report.{Report, cuts_of, is_fetch, is_refusal, last_world}
-use Rattle.air_rehearsal.specs.ServerEvents.{waiting_of}
-use Rattle.air_rehearsal.specs.Stations.{IsStationOf, Station, client_at, role_of, stations_of, the_server, with_cut}
-use Rattle.air_rehearsal.specs.declared.party.Party.{Party as StoredParty}
 use Rattle.air_rehearsal.specs.declared.report.Report.{Report as StoredReport}
-use Rattle.air_rehearsal.specs.declared.stations.Stations.{Stations}
-use Rattle.node.specs.Events.{NodeEvent}
+use Rattle.air_rehearsal.proofs.Names.{ℕ, zero, suc, List, [], length, map, Option, None, refl, Bool, false, true, range_with_len, sum_by, option_and_then, sum_by-cons, Cuts, Ghosts, ClientDoes, ClientEvent, Plays, ServerDoes, ServerEvent, WorldStep, ServerTakes, Event, Schedule, ask_download, ask_list, ask_resume, ask_upload, break_client, cut_client, cut_server, tick_client, tick_server, to_client, to_server, World, first_world, Follow, Stage, last_stage, Tells, HasPlayed, counts_to, Bench, IsPlaying, IsStage, PlaysEvent, cuts_in, waiting_in, first_stage, until, Report, cuts_of, is_fetch, is_refusal, last_world, waiting_of, IsStationOf, Station, client_at, role_of, stations_of, the_server, with_cut, Party as StoredParty, Stations, NodeEvent}
 use Rattle.air_rehearsal.proofs.CountLemmas.{all-cuts-more, events-more, one-cut, one_cut, questions-more, times-more, waiting_since}
 use Rattle.air_rehearsal.proofs.CourseLemmas.{has_played_more}
 

@@ -1,19 +1,8 @@
 -- A rehearsal that was played to its end: what is promised of its worlds and its disks follows from the laws of the
 -- world.
-use Rattle.std.specs.Prelude.{◌≡◌, List, refl}
-use Rattle.disk_model.specs.Cuts.{Cuts, LastsSo, cut_state}
-use Rattle.disk_model.specs.declared.disk.Disk.{Ghosts}
-use Rattle.file_entries.specs.Follows.{FollowsLaw}
-use Rattle.air_world.specs.Cuts.{IsRun}
-use Rattle.air_world.specs.Laws.{PartsLaw, ScheduleLaw, SoundLaw, StoresLaw}
-use Rattle.air_world.specs.Schedule.{Schedule}
-use Rattle.air_world.specs.World.{World}
-use Rattle.air_rehearsal.specs.Played.{BenchPlayed, EndsWhole}
-use Rattle.air_rehearsal.specs.Rehearsed.{Rehearsed}
-use Rattle.air_rehearsal.specs.Counting.{Tells}
-use Rattle.air_rehearsal.specs.Report.{IsReport, Report}
+use Rattle.std.specs.Prelude.{◌≡◌}
 use Rattle.air_rehearsal.specs.declared.report.Report.{Report as StoredReport}
-use Rattle.air_rehearsal.specs.Stations.{the_server}
+use Rattle.air_rehearsal.proofs.Names.{List, refl, Cuts, LastsSo, cut_state, Ghosts, FollowsLaw, IsRun, PartsLaw, ScheduleLaw, SoundLaw, StoresLaw, Schedule, World, BenchPlayed, EndsWhole, Rehearsed, Tells, IsReport, Report, the_server}
 use Rattle.air_rehearsal.proofs.CutsAtEnd.{tell_all_cuts}
 use Rattle.air_rehearsal.proofs.RunStages.{promised_at}
 

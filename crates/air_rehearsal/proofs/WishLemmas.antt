@@ -1,28 +1,10 @@
 -- What is drawn to be asked of the client of a number, by what its notes say.
-use Rattle.std.specs.Prelude.{◌≡◌, ◌≢◌, ◌%◌, ◌==◌, ℕ, min, true, false, Option, None, Some}
-use Rattle.std.specs.Prelude.{is_some, refl}
-use Rattle.std.specs.Option.{option_map, option_map_or}
+use Rattle.std.specs.Prelude.{◌≡◌, ◌≢◌, ◌%◌, ◌==◌}
 use Rattle.std.proofs.Common.{sym, ap, ◌∙◌}
-use Rattle.std.proofs.lemmas.Bool.{cond-false, cond-true, eq-eqb, ne_eqb}
-use Rattle.client_notes.specs.Notes.{Lists}
-use Rattle.ftl0_client.specs.Outcomes.{outcome_by}
 use Rattle.ftl0_client.specs.declared.outcome.Outcome.TheVariants as outcome
-use Rattle.air_schedule.specs.Events.{event_value}
 use Rattle.air_schedule.specs.declared.event.Event.{Event as StoredEvent}
 use Rattle.air_attempt.specs.Party.{Party}
-use Rattle.air_world.specs.Lawful.{last_unfinished}
-use Rattle.air_world.specs.Schedule.{ask_download, ask_resume, ask_upload}
-use Rattle.air_world.specs.Sound.{Sound}
-use Rattle.air_world.specs.World.{World}
-use Rattle.air_rehearsal.specs.Drawn.{last_acked}
-use Rattle.air_rehearsal.specs.Driving.{IsDraw}
-use Rattle.air_rehearsal.specs.Generator.{Draw, next_number, next_state, none_drawn, question, state_after, wish, wish_by, wish_of}
-use Rattle.air_rehearsal.specs.Numbers.{numbered}
-use Rattle.air_rehearsal.specs.PartyCalls.{IsLastGoing}
-use Rattle.air_rehearsal.specs.Report.{is_working}
-use Rattle.air_rehearsal.specs.Worlds.{PlaysStations}
-use Rattle.air_rehearsal.specs.declared.party.Party.{Party as StoredParty}
-use Rattle.air_rehearsal.specs.declared.stations.Stations.{Stations}
+use Rattle.air_rehearsal.proofs.Names.{ℕ, min, true, false, Option, None, Some, is_some, refl, option_map, option_map_or, cond-false, cond-true, eq-eqb, ne_eqb, Lists, outcome_by, event_value, last_unfinished, ask_download, ask_resume, ask_upload, Sound, World, last_acked, IsDraw, Draw, next_number, next_state, none_drawn, question, state_after, wish, wish_by, wish_of, numbered, IsLastGoing, is_working, PlaysStations, Party as StoredParty, Stations}
 use Rattle.air_rehearsal.proofs.AllowedLemmas.{Has}
 use Rattle.air_rehearsal.proofs.PlayParts.{is_under_way, isnt_under_way}
 

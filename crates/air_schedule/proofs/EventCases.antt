@@ -1,11 +1,6 @@
 -- Which events may have words that begin so.
 use Rattle.std.proofs.Common.{◌≡◌, ◌≢◌, ℕ, ◌<◌, ◌≤◌, ◌^◌, false, cond, List, [], ◌∷◌, ◌++◌, codes, decimal, bytes_eq, get_or, ap, sym, ◌∙◌, refl, arith}
-use Rattle.std.proofs.lemmas.Fmt.{decimal_injective}
-use Rattle.hex.specs.Hex.{decode_of}
-use Rattle.hex.proofs.HexLemmas.{decode_of-same}
-use Rattle.air_schedule.specs.Schedule.{Event, ask_download, ask_list, ask_resume, ask_upload, break_client}
-use Rattle.air_schedule.specs.Schedule.{cut_client, cut_server, tick_client, tick_server, to_client, to_server}
-use Rattle.air_schedule.specs.Text.{EventText, EventWords, words_of}
+use Rattle.air_schedule.proofs.Names.{decimal_injective, decode_of, decode_of-same, Event, ask_download, ask_list, ask_resume, ask_upload, break_client, cut_client, cut_server, tick_client, tick_server, to_client, to_server, EventText, EventWords, words_of}
 use Rattle.air_schedule.proofs.WordLemmas.{no_station, other_words, sole_word}
 
 -- the words of a line that are the same for all events of a kind

@@ -4,3 +4,4 @@ mod ReadLemmas
 mod ScheduleLemmas
 mod SplitLemmas
 mod WordLemmas
+mod Names

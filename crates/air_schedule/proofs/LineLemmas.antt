@@ -1,11 +1,6 @@
 -- Lemmas on the lines of a text.
 use Rattle.std.proofs.Common.{ℕ, ◌≤◌, List, codes, sym, subst, refl, arith}
-use Rattle.std.specs.List.{AllByRecursion}
-use Rattle.std.specs.Str.{IsUtf8}
-use Rattle.std.proofs.lemmas.List.Splits.{join_with_byte-slice_split}
-use Rattle.air_schedule.specs.Schedule.{Event, ask_download, ask_list, ask_resume, ask_upload, break_client}
-use Rattle.air_schedule.specs.Schedule.{cut_client, cut_server, tick_client, tick_server, to_client, to_server}
-use Rattle.air_schedule.specs.Text.{EventText, Line, LineWords, client_line, event_line, window_line, words_of}
+use Rattle.air_schedule.proofs.Names.{AllByRecursion, IsUtf8, join_with_byte-slice_split, Event, ask_download, ask_list, ask_resume, ask_upload, break_client, cut_client, cut_server, tick_client, tick_server, to_client, to_server, EventText, Line, LineWords, client_line, event_line, window_line, words_of}
 use Rattle.air_schedule.proofs.WordLemmas.{IsText, IsText-call, IsText-decimal, IsText-hex, IsUtf8-joined, text}
 
 -- all these words are text

@@ -1,10 +1,6 @@
 -- The lines of a text, as far as they were read.
 use Rattle.std.proofs.Common.{◌≡◌, ◌≢◌, ℕ, ◌+◌, ◌-◌, ◌≤◌, ◌⊎◌, ◌==◌, inl, inr, List, [], ◌∷◌, ◌++◌, drop, length, map, take, ap, sym, subst, ◌∙◌, refl, arith, append-nil, append_assoc, length-append, length-take-le, take-append-drop}
-use Rattle.std.proofs.lemmas.Bool.{cases_lt}
-use Rattle.std.proofs.lemmas.List.Splits.{length-slice_split}
-use Rattle.px_base.specs.CallSign.{CallSign}
-use Rattle.air_schedule.specs.Schedule.{Event, IsSchedule, Schedule}
-use Rattle.air_schedule.specs.Text.{BeginSchedule, BeginsWell, FirstBadLine, Line, LineText, LinesThen, ScheduleText, client_line, event_line, lines_of, parts_of, window_line, words_of}
+use Rattle.air_schedule.proofs.Names.{cases_lt, length-slice_split, CallSign, Event, IsSchedule, Schedule, BeginSchedule, BeginsWell, FirstBadLine, Line, LineText, LinesThen, ScheduleText, client_line, event_line, lines_of, parts_of, window_line, words_of}
 use Rattle.air_schedule.proofs.ScheduleLemmas.{one_line}
 
 -- one more line

@@ -1,16 +1,8 @@
 -- Which line may follow the lines of a schedule.
 use Rattle.std.proofs.Common.{◌≡◌, ◌≢◌, ℕ, ◌<◌, ◌≤◌, ◌==◌, ◌&&◌, Bool, false, true, inl, inr, List, [], ◌∷◌, ◌++◌, length, map, codes, bytes_eq, ap, ap₂, sym, subst, ◌∙◌, refl, arith, append_assoc, length-append}
 use Rattle.std.specs.Bool.{Decides}
-use Rattle.std.specs.List.{AllByRecursion, list_any}
-use Rattle.std.proofs.lemmas.Bool.{false≢true, or_cases, or_parts}
-use Rattle.std.proofs.lemmas.Bool.Decides.{Decides-and, Decides-eqb, Decides-like}
-use Rattle.std.proofs.lemmas.Fmt.{decimal_injective}
-use Rattle.std.proofs.lemmas.List.{map-append}
-use Rattle.std.proofs.lemmas.Slice.Eq.{bytes_eq-Decides}
-use Rattle.px_base.specs.CallSign.{CallSign, CallText, IsCall}
 use Rattle.px_base.proofs.Calls.{one_call}
-use Rattle.air_schedule.specs.Schedule.{AreDistinct, Event, IsInRange, IsSchedule, Schedule}
-use Rattle.air_schedule.specs.Text.{BeginSchedule, EventText, Line, LineWords, client_line, event_line, lines_of, window_line}
+use Rattle.air_schedule.proofs.Names.{AllByRecursion, list_any, false≢true, or_cases, or_parts, Decides-and, Decides-eqb, Decides-like, decimal_injective, map-append, bytes_eq-Decides, CallSign, CallText, IsCall, AreDistinct, Event, IsInRange, IsSchedule, Schedule, BeginSchedule, EventText, Line, LineWords, client_line, event_line, lines_of, window_line}
 use Rattle.air_schedule.proofs.EventCases.{event_apart, one_event, sign, sign_of, signs}
 use Rattle.air_schedule.proofs.WordLemmas.{other_words}
 

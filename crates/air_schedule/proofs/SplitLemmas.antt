@@ -1,16 +1,9 @@
 -- What is cut off a text or a line at its first LF or blank.
 use Rattle.std.proofs.Common.{◌≡◌, ◌≢◌, ℕ, ◌+◌, ◌<◌, Bool, false, List, [], ◌∷◌, length, take, drop, Bor, Option, Some, None, refl, ap, ◌∙◌, inl, inr, eqb, get_or, arith}
-use Rattle.std.specs.Prelude.{MatchOption}
-use Rattle.std.specs.List.{All, position, position_or_len}
-use Rattle.std.proofs.lemmas.Bool.{cases_lt}
-use Rattle.std.proofs.lemmas.Bool.Decides.{eqb_tells}
 use Rattle.std.proofs.lemmas.Grind.{common_steps}
-use Rattle.std.proofs.lemmas.List.Elements.{All-from_get_or}
 use Rattle.std.proofs.lemmas.List.Quantifiers.{position-Some}
-use Rattle.std.proofs.lemmas.List.Splits.{slice_split_at, slice_split_first, slice_split_none}
-use Rattle.std.proofs.lemmas.List.Sums.{fails_before_first, position_or_len_is}
 use Rattle.std.proofs.lemmas.Str.Pattern.{IsSplitOnceResult, split_parts}
-use Rattle.air_schedule.specs.Text.{parts_of, words_of}
+use Rattle.air_schedule.proofs.Names.{MatchOption, All, position, position_or_len, cases_lt, eqb_tells, All-from_get_or, slice_split_at, slice_split_first, slice_split_none, fails_before_first, position_or_len_is, parts_of, words_of}
 
 is_end : ℕ → Bool
 is_end octet = eqb octet 10

@@ -1,22 +1,9 @@
 -- Lemmas on words: what they are made of, and that nothing parts one.
 use Rattle.std.proofs.Common.{◌≡◌, ℕ, ◌<◌, ◌≤◌, ◌^◌, Bool, true, false, List, [], ◌∷◌, codes, decimal, refl, sym, ap, ◌∙◌, subst, inl, inr, Ok, eqb, ltb, bytes_eq, get_or, arith, ◌≢◌}
-use Rattle.std.specs.Prelude.{IsTrue, not}
-use Rattle.std.specs.List.{All, AllByRecursion, join_with_byte, list_all}
-use Rattle.std.specs.Str.{IsUtf8}
-use Rattle.std.proofs.lemmas.Bool.{false≢true, ltb-true, true≢false}
-use Rattle.std.proofs.lemmas.Bool.Decides.{nat_tests}
-use Rattle.std.proofs.lemmas.Fmt.{decimal_is_IsNumeral}
-use Rattle.std.proofs.lemmas.List.Elements.{All-append, All-cons, All-from_get_or, All-from_recursion}
-use Rattle.std.proofs.lemmas.List.Splits.{join_with_byte-slice_split, slice_split_none}
-use Rattle.std.proofs.lemmas.List.Sums.{AllPass-from_list_all}
-use Rattle.std.proofs.lemmas.Slice.Eq.{bytes_eq-Decides}
 use Rattle.std.proofs.lemmas.Str.{IsUtf8-append, IsUtf8-from_ascii, IsUtf8-nil}
 use Rattle.std.proofs.lemmas.Str.Ascii.{IsAscii-from_all}
 use Rattle.std.proofs.lemmas.Str.Parse.{digit_at}
-use Rattle.hex.specs.Hex.{decode_of, is_hex_digit}
-use Rattle.hex.proofs.HexLemmas.{decode_of-ok}
-use Rattle.px_base.specs.CallSign.{CallSign, CallText, is_call_char, ssid_digits}
-use Rattle.air_schedule.specs.Text.{words_of}
+use Rattle.air_schedule.proofs.Names.{IsTrue, not, All, AllByRecursion, join_with_byte, list_all, IsUtf8, false≢true, ltb-true, true≢false, nat_tests, decimal_is_IsNumeral, All-append, All-cons, All-from_get_or, All-from_recursion, join_with_byte-slice_split, slice_split_none, AllPass-from_list_all, bytes_eq-Decides, decode_of, is_hex_digit, decode_of-ok, CallSign, CallText, is_call_char, ssid_digits, words_of}
 
 -- a printing character of ASCII that isn't the blank
 abbrev IsPrinting : ℕ → Type 0

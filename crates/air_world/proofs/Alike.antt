@@ -1,13 +1,6 @@
 -- A client that differs from one that is as it should be in nothing but whether its next event is to be cut.
 use Rattle.std.proofs.Common.{◌≡◌, ℕ, List, ◌++◌, Bool, refl, sym, ap, subst, ◌∙◌}
-use Rattle.ftl0_client.specs.Client.{Client}
-use Rattle.air_attempt.specs.Attempt.{Attempt}
-use Rattle.air_attempt.specs.Party.{Asked, Party, newest}
-use Rattle.air_attempt.proofs.Offered.{each-weaker}
-use Rattle.air_files.specs.Laws.{StayLaw}
-use Rattle.air_files.specs.Tasks.{IsWork}
-use Rattle.air_files.proofs.Offered.{alike-itself, tasks-lists}
-use Rattle.air_world.specs.World.{World}
+use Rattle.air_world.proofs.Names.{Client, Attempt, Asked, Party, newest, each-weaker, StayLaw, IsWork, alike-itself, tasks-lists, World}
 use Rattle.air_world.proofs.ClientMade.{IsClientMade}
 use Rattle.air_world.proofs.ClientsStay.{stay-refl}
 use Rattle.air_world.proofs.Rebuild.{stands-at, stands-by, work-by}

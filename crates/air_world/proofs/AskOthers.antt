@@ -3,23 +3,9 @@ use Rattle.std.proofs.Common.{◌≡◌, ℕ, ◌≤◌, List, [], ◌∷◌, le
 use Rattle.std.proofs.Common.{length-append}
 use Rattle.file_store.specs.IsStore.{FitsLength}
 use Rattle.file_store.specs.Limits.{longest_file}
-use Rattle.file_store.specs.Store.{Holding, Store, complete, entry_of, partial}
-use Rattle.file_store.proofs.Offered.{found-fits}
-use Rattle.ftl0_session.specs.Downloads.Table.{complete_octets, file_of}
-use Rattle.ftl0_job.specs.Directory.{new_directory}
-use Rattle.ftl0_job.specs.Download.{new_download}
-use Rattle.ftl0_job.specs.JobState.{GoWith, IsNotBegun}
-use Rattle.ftl0_job.specs.Upload.{new_upload}
-use Rattle.ftl0_job.specs.declared.work.Work.{Work}
 use Rattle.ftl0_job.specs.declared.work.Work.TheVariants as work
 use Rattle.air_schedule.specs.Schedule.{AreTokens, IsFileNumber}
-use Rattle.air_attempt.specs.Party.{Party}
-use Rattle.air_files.specs.Facts.{AreFirstIfAny, HasNumber, got}
-use Rattle.air_files.specs.SoundStore.{IsSoundStore}
-use Rattle.air_files.specs.Tasks.{IsWork}
-use Rattle.air_files.proofs.Offered.{complete-entry}
-use Rattle.air_world.specs.Sound.{IsParty, Sound}
-use Rattle.air_world.specs.World.{PartyAt, World}
+use Rattle.air_world.proofs.Names.{Holding, Store, complete, entry_of, partial, found-fits, complete_octets, file_of, new_directory, new_download, GoWith, IsNotBegun, new_upload, Work, Party, AreFirstIfAny, HasNumber, got, IsSoundStore, IsWork, complete-entry, IsParty, Sound, PartyAt, World}
 use Rattle.air_world.proofs.Asked.{MayBeAsked, same-base}
 
 -- what a work goes on with is a task of the client that has its number

@@ -1,25 +1,9 @@
 -- The last unfinished upload of a client may be asked again.
 use Rattle.std.proofs.Common.{◌≡◌, ℕ, ◌-◌, ◌<◌, List, [], length, reverse, get_or, refl, sym, ap, ◌∙◌, subst, arith}
 use Rattle.std.proofs.Common.{Bool, true, Option, None, Some}
-use Rattle.std.specs.List.{position}
-use Rattle.std.specs.Option.{option_map}
-use Rattle.std.proofs.lemmas.List.{get_or-reverse, length-reverse}
-use Rattle.std.proofs.lemmas.List.Quantifiers.{position-Some}
-use Rattle.std.proofs.lemmas.Option.{get_or_from_slice_get, same_Some}
-use Rattle.client_notes.specs.Command.{is_going}
-use Rattle.client_notes.specs.Notes.{Lists, Task, task_count, task_of}
-use Rattle.client_notes.specs.declared.progress.Progress.{Progress}
 use Rattle.client_notes.specs.declared.progress.Progress.TheVariants as progress
-use Rattle.client_notes.proofs.Offered.{task-at}
-use Rattle.ftl0_job.specs.Upload.{Upload, new_upload}
 use Rattle.ftl0_job.specs.declared.work.Work.TheVariants as work
-use Rattle.air_attempt.specs.Party.{Asked, IsFileOf, Party}
-use Rattle.air_files.specs.Facts.{HasNumber}
-use Rattle.air_files.specs.Tasks.{IsTaskFor}
-use Rattle.air_files.proofs.Offered.{task-file}
-use Rattle.air_world.specs.Lawful.{last_unfinished}
-use Rattle.air_world.specs.Sound.{IsParty, Sound}
-use Rattle.air_world.specs.World.{PartyAt, World}
+use Rattle.air_world.proofs.Names.{position, option_map, get_or-reverse, length-reverse, position-Some, get_or_from_slice_get, same_Some, is_going, Lists, Task, task_count, task_of, Progress, task-at, Upload, new_upload, Asked, IsFileOf, Party, HasNumber, IsTaskFor, task-file, last_unfinished, IsParty, Sound, PartyAt, World}
 use Rattle.air_world.proofs.AskOthers.{GoesOnWell, ask-again}
 use Rattle.air_world.proofs.Asked.{MayBeAsked}
 

@@ -1,29 +1,8 @@
 -- A new file may be asked of a client: it has its task then.
 use Rattle.std.proofs.Common.{◌≡◌, ◌⊎◌, ⊎_elim, ℕ, zero, suc, ◌+◌, ◌-◌, ◌==◌, ◌<◌, ◌≤◌, false, List, [], ◌∷◌, ◌++◌}
 use Rattle.std.proofs.Common.{length, refl, sym, ap, ◌∙◌, subst, arith, Option, None, Some, inl, inr, length-append}
-use Rattle.sha2.specs.Sha256.{sha256}
-use Rattle.std.specs.Option.{option_and_then, option_map}
-use Rattle.std.specs.Prelude.{slice_get}
-use Rattle.std.proofs.lemmas.Bool.Decides.{eqb_tells}
-use Rattle.std.proofs.lemmas.Option.{same_Some}
-use Rattle.client_notes.specs.Answers.{fresh_task}
-use Rattle.client_notes.specs.Laws.{after_all}
-use Rattle.client_notes.specs.Limits.{most_tasks}
-use Rattle.client_notes.specs.Notes.{Task, task_count, task_of}
-use Rattle.client_notes.proofs.Offered.{task-at}
-use Rattle.ftl0_job.specs.Upload.{Upload, new_upload}
-use Rattle.ftl0_job.specs.declared.work.Work.{Work}
 use Rattle.ftl0_job.specs.declared.work.Work.TheVariants as work
-use Rattle.air_attempt.specs.Attempt.{Attempt}
-use Rattle.air_attempt.specs.Party.{Asked, IsFileOf, Party, upload_of}
-use Rattle.air_attempt.proofs.Offered.{each-weaker}
-use Rattle.air_files.specs.Laws.{BeginLaw}
-use Rattle.air_files.specs.Tasks.{AreTasks, IsTaskFor, IsWork}
-use Rattle.air_files.specs.Uploads.{IsGoodFile}
-use Rattle.air_files.proofs.Offered.{file-more, place-more, task-some, task_for}
-use Rattle.air_world.specs.Events.{next_upload}
-use Rattle.air_world.specs.Sound.{Sound}
-use Rattle.air_world.specs.World.{PartyAt, World}
+use Rattle.air_world.proofs.Names.{sha256, option_and_then, option_map, slice_get, eqb_tells, same_Some, fresh_task, after_all, most_tasks, Task, task_count, task_of, task-at, Upload, new_upload, Work, Attempt, Asked, IsFileOf, Party, upload_of, each-weaker, BeginLaw, AreTasks, IsTaskFor, IsWork, IsGoodFile, file-more, place-more, task-some, task_for, next_upload, Sound, PartyAt, World}
 use Rattle.air_world.proofs.Asked.{MayBeAsked}
 use Rattle.air_world.proofs.GoodFile.{good-upload}
 use Rattle.air_world.proofs.Served.{stands}

@@ -1,18 +1,7 @@
 -- What is known of a client of which something is asked.
 use Rattle.std.proofs.Common.{◌≡◌, ℕ, ◌≤◌, List, ◌++◌, [], refl, sym, subst, append-nil}
-use Rattle.std.specs.List.{AllByRecursion}
-use Rattle.ftl0_job.specs.declared.work.Work.{Work}
 use Rattle.ftl0_job.specs.declared.work.Work.TheVariants as work
-use Rattle.ftl0_job.specs.JobState.{IsNotBegun, NotesGoWith}
-use Rattle.ftl0_job.specs.Table.{new_job}
-use Rattle.ftl0_job.specs.Upload.{new_upload}
-use Rattle.air_attempt.specs.Attempt.{Attempt}
-use Rattle.air_attempt.specs.Party.{Asked, Party}
-use Rattle.air_files.specs.Facts.{HasFacts, HasNumber}
-use Rattle.air_files.specs.Tasks.{AreTasks, IsWork}
-use Rattle.air_files.specs.Uploads.{IsGoodFile}
-use Rattle.air_world.specs.World.{PartyAt, World}
-use Rattle.air_world.specs.Sound.{IsParty, Sound}
+use Rattle.air_world.proofs.Names.{AllByRecursion, Work, IsNotBegun, NotesGoWith, new_job, new_upload, Attempt, Asked, Party, HasFacts, HasNumber, AreTasks, IsWork, IsGoodFile, PartyAt, World, IsParty, Sound}
 
 -- What is known of a client that begins an attempt, where these files were asked, and of its base, which has its task
 -- already, where it is a file's for the first time: the stations and the attempts are the same, and the base has its

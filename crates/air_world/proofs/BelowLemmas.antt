@@ -1,19 +1,7 @@
 -- Schedules whose events may come have their worlds, and a cut lets each number of commands stand.
 use Rattle.std.proofs.Common.{◌≡◌, ℕ, zero, suc, ◌≤◌, List, [], ◌∷◌, length, map, true, false, refl, sym, subst}
-use Rattle.file_store.specs.OnDisk.{after_first}
-use Rattle.ftl0_server.specs.Server.{new_server}
-use Rattle.air_attempt.specs.Party.{Party, sessions_over}
-use Rattle.air_world.specs.Step.{with_asked}
 use Rattle.client_notes.specs.Several as notes
-use Rattle.node.specs.Events.{NodeEvent}
-use Rattle.air_world.specs.Cuts.{ClientDoes, ClientEvent, ClientIsCut, Happens, Plays, ServerDoes, ServerEvent}
-use Rattle.air_world.specs.Cuts.{ServerIsCut, client_commands, party_cut, server_commands}
-use Rattle.air_world.specs.Events.{ClientPart, ClientTakes, IsPartOf, ServerTakes}
-use Rattle.air_world.specs.Laws.{CutsLaw, ExistenceLaw, MayPlay, RunLaw, SoundLaw}
-use Rattle.air_world.specs.Schedule.{Event, ask_download, ask_list, ask_resume, ask_upload, break_client, cut_client}
-use Rattle.air_world.specs.Schedule.{cut_server, tick_client, tick_server, to_client, to_server}
-use Rattle.air_world.specs.Sound.{Sound}
-use Rattle.air_world.specs.World.{PartyAt, World, counted, first_world}
+use Rattle.air_world.proofs.Names.{after_first, new_server, Party, sessions_over, with_asked, NodeEvent, ClientDoes, ClientEvent, ClientIsCut, Happens, Plays, ServerDoes, ServerEvent, ServerIsCut, client_commands, party_cut, server_commands, ClientPart, ClientTakes, IsPartOf, ServerTakes, CutsLaw, ExistenceLaw, MayPlay, RunLaw, SoundLaw, Event, ask_download, ask_list, ask_resume, ask_upload, break_client, cut_client, cut_server, tick_client, tick_server, to_client, to_server, Sound, PartyAt, World, counted, first_world}
 use Rattle.air_world.proofs.WorldLists.{at-set}
 
 plays : SoundLaw → ExistenceLaw → (world : World) (events : List Event) → Sound world → MayPlay world events

@@ -1,26 +1,7 @@
 -- A client of which something is asked is as it should be.
 use Rattle.std.proofs.Common.{◌≡◌, ℕ, List, [], ◌∷◌, Option, None, Some, refl, sym, ap, subst, ◌∙◌}
-use Rattle.std.specs.Prelude.{slice_get}
-use Rattle.std.specs.List.{AllByRecursion}
-use Rattle.ax25_frames.specs.FrameText.{FrameValue}
-use Rattle.ax25_link.specs.Sending.{Sending, next_sending}
-use Rattle.ax25_link.specs.Window.{IsWindow, Window}
-use Rattle.client_notes.specs.Command.{NotesCommand}
-use Rattle.ftl0_job.specs.declared.work.Work.{Work}
-use Rattle.ftl0_job.specs.Table.{new_job}
-use Rattle.ftl0_client.specs.Attempt.Attempted.{Attempted}
-use Rattle.ftl0_client.specs.Client.{Client, Refused, asks, IsSilent, sends_by, sends_of_attempt, sends_of_link}
 use Rattle.ftl0_client.specs.Client.{with_attempt}
-use Rattle.ftl0_client.specs.ClientStep.{ClientStep}
-use Rattle.ftl0_client.specs.Laws.{EndFits}
-use Rattle.client_laws.specs.Steps.{StepsQuietly, called_for, sabm_of}
-use Rattle.air_attempt.specs.Attempt.{Attempt}
-use Rattle.air_attempt.specs.Laws.{AreAttempts, GoesWith}
-use Rattle.air_attempt.specs.Party.{Asked, IsLinkOf, Party}
-use Rattle.air_attempt.specs.Transfers.{ClientDid, after_event, beginning, did_by}
-use Rattle.air_world.specs.Sound.{Sound}
-use Rattle.air_world.specs.StationLaws.{ClientLaws}
-use Rattle.air_world.specs.World.{PartyAt, World}
+use Rattle.air_world.proofs.Names.{slice_get, AllByRecursion, FrameValue, Sending, next_sending, IsWindow, Window, NotesCommand, Work, new_job, Attempted, Client, Refused, asks, IsSilent, sends_by, sends_of_attempt, sends_of_link, ClientStep, EndFits, StepsQuietly, called_for, sabm_of, Attempt, AreAttempts, GoesWith, Asked, IsLinkOf, Party, ClientDid, after_event, beginning, did_by, Sound, ClientLaws, PartyAt, World}
 use Rattle.air_world.proofs.Asked.{MayBeAsked}
 use Rattle.air_world.proofs.ClientBasics.{goes-with}
 use Rattle.air_world.proofs.ClientBegun.{Begins, begun-made}

@@ -1,22 +1,7 @@
 -- What a client of a sound world brings to its events.
 use Rattle.std.proofs.Common.{◌≡◌, ◌⊎◌, ℕ, List, ◌∷◌, Option, None, Some, refl, sym, ap, subst, ◌∙◌, inl, inr}
-use Rattle.std.specs.Prelude.{slice_get}
 use Rattle.ax25_link.specs.declared.state.LinkState.TheVariants.{Calling, Down, Up}
-use Rattle.ax25_link.specs.Window.{IsWindow}
-use Rattle.client_notes.specs.Notes.{Lists}
-use Rattle.ftl0_job.specs.Promises.{JobStands}
-use Rattle.ftl0_job.specs.declared.work.Work.{Work}
-use Rattle.ftl0_client.specs.Attempt.Attempted.{Attempted}
-use Rattle.ftl0_client.specs.Attempt.Laws.{AttemptStands}
-use Rattle.air_attempt.specs.Attempt.{Attempt, IsAttempt}
-use Rattle.air_attempt.specs.Laws.{AreAttempts, GoesWith}
-use Rattle.air_attempt.specs.Party.{IsLinkOf, Party, newest}
-use Rattle.air_attempt.specs.Sides.{ClientSide, IsJob}
-use Rattle.air_attempt.proofs.Offered.{all-at}
-use Rattle.air_files.specs.Laws.{IsWorking}
-use Rattle.air_files.specs.Tasks.{StandsBy}
-use Rattle.air_world.specs.Sound.{IsParty, Sound}
-use Rattle.air_world.specs.World.{PartyAt, World}
+use Rattle.air_world.proofs.Names.{slice_get, IsWindow, Lists, JobStands, Work, Attempted, AttemptStands, Attempt, IsAttempt, AreAttempts, GoesWith, IsLinkOf, Party, newest, ClientSide, IsJob, all-at, IsWorking, StandsBy, IsParty, Sound, PartyAt, World}
 use Rattle.air_world.proofs.Served.{stands}
 use Rattle.air_world.proofs.HeardMade.{first-of}
 

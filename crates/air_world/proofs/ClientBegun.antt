@@ -1,18 +1,6 @@
 -- A client that begins an attempt is as it should be: one that is asked, and one that calls again.
 use Rattle.std.proofs.Common.{◌≡◌, ℕ, List, ◌∷◌, ◌++◌, Option, Some, refl, sym, ap, subst, ◌∙◌, inr}
-use Rattle.ftl0_job.specs.Promises.{JobStands}
-use Rattle.ftl0_client.specs.Client.{Client}
-use Rattle.air_attempt.specs.Attempt.{Attempt}
-use Rattle.air_attempt.specs.Laws.{GoesWith}
-use Rattle.air_attempt.specs.Party.{Asked, EachAttempt, Party}
-use Rattle.air_attempt.specs.Sides.{ServerSide}
-use Rattle.air_attempt.proofs.Offered.{each-weaker}
-use Rattle.air_files.specs.Facts.{GoesOnWithTask, HasFacts}
-use Rattle.air_files.specs.Laws.{IsBeginning}
-use Rattle.air_files.specs.Tasks.{IsWork}
-use Rattle.air_files.proofs.Offered.{tasks-lists}
-use Rattle.air_world.specs.StationLaws.{ClientLaws}
-use Rattle.air_world.specs.World.{World}
+use Rattle.air_world.proofs.Names.{JobStands, Client, Attempt, GoesWith, Asked, EachAttempt, Party, ServerSide, each-weaker, GoesOnWithTask, HasFacts, IsBeginning, IsWork, tasks-lists, ClientLaws, World}
 use Rattle.air_world.proofs.ClientBasics.{stands-job}
 use Rattle.air_world.proofs.ClientMade.{IsClientMade}
 use Rattle.air_world.proofs.SessionsStay.{sessions_of}

@@ -1,35 +1,10 @@
 -- Each event of a client's keeps a sound world.
 use Rattle.std.proofs.Common.{◌≡◌, ℕ, zero, suc, take, ◌+◌, List, [], ◌∷◌, ◌++◌, Bool, true, false, length, refl, sym}
 use Rattle.std.proofs.Common.{ap, subst, ◌∙◌, append-nil}
-use Rattle.std.specs.List.{AllByRecursion}
-use Rattle.ax25_link.specs.Air.{Transmission}
-use Rattle.client_notes.specs.Command.{NotesCommand}
-use Rattle.client_notes.specs.Laws.{after_all}
-use Rattle.client_notes.specs.Notes.{Lists, task_count}
 use Rattle.client_notes.specs.Several as notes
-use Rattle.ftl0_job.specs.declared.work.Work.{Work}
 use Rattle.ftl0_job.specs.declared.work.Work.TheVariants as work
-use Rattle.ftl0_job.specs.Upload.{new_upload}
-use Rattle.ftl0_job.specs.Table.{new_job}
 use Rattle.ftl0_client.specs.Client as client
-use Rattle.ftl0_client.specs.Client.{Client}
-use Rattle.ftl0_client.specs.ClientStep.{ClientStep}
-use Rattle.ftl0_client.specs.Laws.{SomeStepLaw}
-use Rattle.air_attempt.specs.Attempt.{Attempt}
-use Rattle.air_attempt.specs.Laws.{AreAttempts}
-use Rattle.air_attempt.specs.Party.{Asked, Party, to_client_delivered}
-use Rattle.air_attempt.specs.Transfers.{ClientDid, after_event}
-use Rattle.air_attempt.proofs.Offered.{each-weaker}
-use Rattle.air_files.specs.Facts.{HasFacts}
-use Rattle.air_files.specs.Laws.{started_with}
-use Rattle.air_files.specs.Tasks.{AreTasks, IsWork}
-use Rattle.air_files.proofs.Offered.{tasks-lists}
-use Rattle.air_world.specs.Cuts.{broken, ClientDoes, ClientIsCut, party_cut}
-use Rattle.air_world.specs.Events.{ClientPart, asking, asking_file, part_with, with_current}
-use Rattle.air_world.specs.Sound.{Sound}
-use Rattle.air_world.specs.StationLaws.{ClientLaws}
-use Rattle.air_world.specs.Step.{ClientGoes, client_started, party_after, with_asked}
-use Rattle.air_world.specs.World.{PartyAt, World, counted, with_party}
+use Rattle.air_world.proofs.Names.{AllByRecursion, Transmission, NotesCommand, after_all, Lists, task_count, Work, new_upload, new_job, Client, ClientStep, SomeStepLaw, Attempt, AreAttempts, Asked, Party, to_client_delivered, ClientDid, after_event, each-weaker, HasFacts, started_with, AreTasks, IsWork, tasks-lists, broken, ClientDoes, ClientIsCut, party_cut, ClientPart, asking, asking_file, part_with, with_current, Sound, ClientLaws, ClientGoes, client_started, party_after, with_asked, PartyAt, World, counted, with_party}
 use Rattle.air_world.proofs.ClientBasics.{goes-with}
 use Rattle.air_world.proofs.CutWorld.{take-none}
 use Rattle.air_world.proofs.Alike.{made-alike}

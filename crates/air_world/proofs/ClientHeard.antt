@@ -1,34 +1,12 @@
 -- A frame that a client hears, and a tick: the client is then as it should be.
 use Rattle.std.proofs.Common.{◌≡◌, ℕ, zero, suc, List, [], ◌∷◌, Bool, true, Option, None, Some, refl, sym, ap, subst}
 use Rattle.std.proofs.Common.{◌∙◌}
-use Rattle.std.specs.Prelude.{slice_get, if◌then◌else◌}
-use Rattle.ax25_frames.specs.FrameText.{FrameValue}
-use Rattle.ax25_link.specs.Air.{IsLawful, Transmission}
-use Rattle.ax25_link.specs.LinkStep.{frame as coming_frame}
-use Rattle.ftl0_session.proofs.uploads.UploadRows.{same_call-decides}
-use Rattle.client_notes.specs.Command.{NotesCommand}
-use Rattle.client_notes.specs.Notes.{Lists, is_same_call}
+use Rattle.std.specs.Prelude.{if◌then◌else◌}
+use Rattle.client_notes.specs.Notes.{is_same_call}
 use Rattle.client_notes.specs.Several as notes
-use Rattle.ftl0_client.specs.Attempt.Attempted.{Attempted}
-use Rattle.ftl0_client.specs.Attempt.Hearing.{hearing, with_end}
-use Rattle.ftl0_client.specs.Attempt.Laws.{AttemptStands}
-use Rattle.ftl0_client.specs.Client.{Client, attempt_for, hears}
-use Rattle.ftl0_client.specs.ClientStep.{ClientStep}
+use Rattle.ftl0_client.specs.Client.{hears}
 use Rattle.ftl0_client.specs.Entries as job
-use Rattle.ftl0_client.specs.Entries.{JobEntry}
-use Rattle.client_laws.specs.Steps.{StepsBy, StepsQuietly, answers_to}
-use Rattle.air_attempt.specs.Attempt.{Attempt, IsAttempt, IsFromTo}
-use Rattle.air_attempt.specs.Laws.{DeliversToClient, GoesWith}
-use Rattle.air_attempt.specs.Party.{Party, client_sends, newest, to_client_delivered, with_newest}
-use Rattle.air_attempt.specs.Transfers.{ClientDid, after_event, did_by, job_gone_on}
-use Rattle.air_attempt.proofs.Offered.{all-at}
-use Rattle.air_files.specs.Facts.{HasFacts}
-use Rattle.air_files.specs.Laws.{started_with}
-use Rattle.air_files.specs.Tasks.{AreTasks}
-use Rattle.air_files.proofs.Offered.{tasks-lists}
-use Rattle.air_world.specs.Sound.{Sound}
-use Rattle.air_world.specs.StationLaws.{ClientLaws}
-use Rattle.air_world.specs.World.{PartyAt, World}
+use Rattle.air_world.proofs.Names.{slice_get, FrameValue, IsLawful, Transmission, frame as coming_frame, same_call-decides, NotesCommand, Lists, Attempted, hearing, with_end, AttemptStands, Client, attempt_for, ClientStep, JobEntry, StepsBy, StepsQuietly, answers_to, Attempt, IsAttempt, IsFromTo, DeliversToClient, GoesWith, Party, client_sends, newest, to_client_delivered, with_newest, ClientDid, after_event, did_by, job_gone_on, all-at, HasFacts, started_with, AreTasks, tasks-lists, Sound, ClientLaws, PartyAt, World}
 use Rattle.air_world.proofs.ClientBasics.{HasLink, goes-with, has-link}
 use Rattle.air_world.proofs.ClientMade.{IsClientMade}
 use Rattle.air_world.proofs.ClientQuiet.{quiet-made, still-answered}

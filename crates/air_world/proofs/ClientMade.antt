@@ -1,27 +1,9 @@
 -- A world that a client's event made of a sound one is sound where that client is as it should be.
 use Rattle.std.proofs.Common.{◌≡◌, ◌≢◌, ◌⊎◌, ℕ, zero, suc, ◌≤◌, List, [], ◌∷◌, ◌++◌, drop, Option, None, Some, refl}
 use Rattle.std.proofs.Common.{sym, ap, subst, ◌∙◌, inl, inr}
-use Rattle.std.specs.Prelude.{slice_get}
-use Rattle.std.specs.List.{AllByRecursion}
-use Rattle.std.proofs.lemmas.Bool.{cases_eq}
-use Rattle.std.proofs.lemmas.Option.{same_Some}
-use Rattle.std.proofs.lemmas.List.{length-set}
-use Rattle.px_base.specs.CallSign.{IsCall}
-use Rattle.ax25_link.proofs.Offered.{slice_get-set_other}
-use Rattle.ftl0_job.specs.declared.work.Work.{Work}
 use Rattle.ftl0_job.specs.declared.work.Work.TheVariants as work
-use Rattle.air_attempt.specs.Attempt.{Attempt}
-use Rattle.air_attempt.specs.Laws.{GoesWith, SitsBy}
-use Rattle.air_attempt.specs.Party.{Asked, EachAttempt, Party, newest}
-use Rattle.air_attempt.specs.Sides.{ServerSide}
-use Rattle.air_attempt.proofs.Offered.{all-at, all-by, each-append, each-weaker, set-at}
-use Rattle.air_files.specs.Facts.{HasFacts}
-use Rattle.air_files.specs.Laws.{BeginLaw}
-use Rattle.air_files.specs.Tasks.{AreTasks, IsWork, StandsBy}
-use Rattle.air_files.specs.Uploads.{IsGoodFile}
-use Rattle.air_files.proofs.Offered.{file-more, place-more}
-use Rattle.air_world.specs.Sound.{AreGrantedOnce, AreStationsOf, GrantedAt, IsParty, IsSideAt, Sound}
-use Rattle.air_world.specs.World.{PartyAt, World, counted, with_party}
+use Rattle.air_world.specs.Sound.{GrantedAt}
+use Rattle.air_world.proofs.Names.{slice_get, AllByRecursion, cases_eq, same_Some, length-set, IsCall, slice_get-set_other, Work, Attempt, GoesWith, SitsBy, Asked, EachAttempt, Party, newest, ServerSide, all-at, all-by, each-append, each-weaker, set-at, HasFacts, BeginLaw, AreTasks, IsWork, StandsBy, IsGoodFile, file-more, place-more, AreGrantedOnce, AreStationsOf, IsParty, IsSideAt, Sound, PartyAt, World, counted, with_party}
 use Rattle.air_world.proofs.Seats.{AreSeatsKnown, between, calls, together}
 use Rattle.air_world.proofs.Served.{stands}
 use Rattle.air_world.proofs.WorldLists.{at-map, at-set, map-at}

@@ -1,23 +1,6 @@
 -- A client that an event leaves as it was, but for what was delivered and sent, and one that starts again from its notes.
 use Rattle.std.proofs.Common.{◌≡◌, ℕ, List, [], ◌∷◌, ◌++◌, Option, None, Some, refl, sym, ap, subst, inl, append-nil}
-use Rattle.std.specs.List.{AllByRecursion}
-use Rattle.ax25_frames.specs.FrameText.{FrameValue}
-use Rattle.ax25_link.specs.Air.{Transmission}
-use Rattle.ax25_link.specs.Window.{IsWindow}
-use Rattle.client_notes.specs.Notes.{Lists}
-use Rattle.ftl0_client.specs.Attempt.Laws.{AttemptStands}
-use Rattle.air_attempt.specs.Attempt.{Attempt}
-use Rattle.air_attempt.specs.Laws.{AreAttempts, GoesWith}
-use Rattle.air_attempt.specs.Party.{Asked, EachAttempt, Party, client_sends, newest, to_client_delivered, with_newest}
-use Rattle.air_attempt.specs.Sides.{ServerSide}
-use Rattle.air_attempt.proofs.Offered.{each-weaker}
-use Rattle.air_files.specs.Facts.{HasFacts}
-use Rattle.air_files.specs.Laws.{LookLike, LooksLike, StayLaw, started_with}
-use Rattle.air_files.specs.Tasks.{AreTasks, IsWork}
-use Rattle.air_files.specs.Uploads.{IsGoodFile}
-use Rattle.air_files.proofs.Offered.{alike-itself, served-itself, tasks-lists}
-use Rattle.air_world.specs.Sound.{IsParty, Sound}
-use Rattle.air_world.specs.World.{PartyAt, World}
+use Rattle.air_world.proofs.Names.{AllByRecursion, FrameValue, Transmission, IsWindow, Lists, AttemptStands, Attempt, AreAttempts, GoesWith, Asked, EachAttempt, Party, client_sends, newest, to_client_delivered, with_newest, ServerSide, each-weaker, HasFacts, LookLike, LooksLike, StayLaw, started_with, AreTasks, IsWork, IsGoodFile, alike-itself, served-itself, tasks-lists, IsParty, Sound, PartyAt, World}
 use Rattle.air_world.proofs.ClientBasics.{goes-with}
 use Rattle.air_world.proofs.ClientMade.{IsClientMade}
 use Rattle.air_world.proofs.SessionsStay.{sessions_of}

@@ -2,29 +2,9 @@
 use Rattle.std.proofs.Common.{◌≡◌, ℕ, List, [], ◌∷◌, Bool, true, false, Option, None, Some, refl, sym, ap, subst, ◌∙◌}
 use Rattle.std.proofs.Common.{append-nil}
 use Rattle.std.specs.Prelude.{if◌then◌else◌}
-use Rattle.std.specs.List.{AllByRecursion}
-use Rattle.ax25_frames.specs.FrameText.{FrameValue}
-use Rattle.ax25_link.specs.LinkStep.{tick as coming_tick}
-use Rattle.client_notes.specs.Command.{NotesCommand}
-use Rattle.ftl0_client.specs.Attempt.Attempted.{Attempted}
-use Rattle.ftl0_client.specs.Attempt.Hearing.{ticking, with_end}
-use Rattle.ftl0_client.specs.Attempt.Laws.{AttemptStands}
-use Rattle.ftl0_client.specs.Attempt.Taking.{quietly}
-use Rattle.ftl0_client.specs.Client.{Client, ticks}
-use Rattle.ftl0_client.specs.ClientStep.{ClientStep}
+use Rattle.ftl0_client.specs.Client.{ticks}
 use Rattle.ftl0_client.specs.Entries as job
-use Rattle.ftl0_client.specs.Entries.{JobEntry}
-use Rattle.client_laws.specs.Steps.{StepsBy, StepsQuietly, sabm_of}
-use Rattle.air_attempt.specs.Attempt.{Attempt}
-use Rattle.air_attempt.specs.Laws.{GoesWith}
-use Rattle.air_attempt.specs.Party.{Party, with_newest}
-use Rattle.air_attempt.specs.Transfers.{ClientDid, after_client_tick, after_event, beginning, called_again, did_by}
-use Rattle.air_attempt.specs.Transfers.{has_call, job_gone_on}
-use Rattle.air_files.specs.Facts.{GoesOnWithTask}
-use Rattle.air_files.specs.Tasks.{IsWork}
-use Rattle.air_world.specs.Sound.{Sound}
-use Rattle.air_world.specs.StationLaws.{ClientLaws}
-use Rattle.air_world.specs.World.{PartyAt, World}
+use Rattle.air_world.proofs.Names.{AllByRecursion, FrameValue, tick as coming_tick, NotesCommand, Attempted, ticking, with_end, AttemptStands, quietly, Client, ClientStep, JobEntry, StepsBy, StepsQuietly, sabm_of, Attempt, GoesWith, Party, with_newest, ClientDid, after_client_tick, after_event, beginning, called_again, did_by, has_call, job_gone_on, GoesOnWithTask, IsWork, Sound, ClientLaws, PartyAt, World}
 use Rattle.air_world.proofs.ClientBasics.{HasLink, goes-with, has-link, its-attempt}
 use Rattle.air_world.proofs.ClientBegun.{Begins, begun-made}
 use Rattle.air_world.proofs.ClientHeard.{did-of, its-stands}

@@ -1,21 +1,7 @@
 -- What the server does leaves the clients' sides of attempts as they are.
 use Rattle.std.proofs.Common.{◌≡◌, List, [], ◌∷◌, Bool, true, false, Option, None, Some, refl, sym, ap, subst, ◌∙◌}
-use Rattle.std.specs.Prelude.{slice_get, ⊤}
-use Rattle.std.specs.List.{AllByRecursion}
-use Rattle.std.specs.Option.{option_map_or}
-use Rattle.std.proofs.lemmas.Option.{same_Some}
-use Rattle.px_base.specs.CallSign.{CallSign}
-use Rattle.ax25_frames.specs.FrameText.{FrameValue}
-use Rattle.ax25_link.specs.Rows.{is_call}
-use Rattle.ax25_link.specs.Window.{Window}
-use Rattle.ftl0_server.specs.Connection.Connected.{Connected}
 use Rattle.ftl0_server.specs.Entries as session
-use Rattle.ftl0_client.specs.Attempt.Attempted.{Attempted}
-use Rattle.air_attempt.specs.Attempt.{Attempt}
-use Rattle.air_attempt.specs.Party.{IsLinkOf, all_over, server_sends, with_answered, with_newest}
-use Rattle.air_attempt.specs.Sides.{ClientSide, ServerSide}
-use Rattle.air_attempt.specs.Transfers.{ServerDid, after_hearing, after_tick, connection_of, did_to, heard_by, opened}
-use Rattle.air_attempt.specs.Transfers.{served, ticked_by}
+use Rattle.air_world.proofs.Names.{slice_get, ⊤, AllByRecursion, option_map_or, same_Some, CallSign, FrameValue, is_call, Window, Connected, Attempted, Attempt, IsLinkOf, all_over, server_sends, with_answered, with_newest, ClientSide, ServerSide, ServerDid, after_hearing, after_tick, connection_of, did_to, heard_by, opened, served, ticked_by}
 
 -- the client's side and the window
 pub record StaysClient (old new : Attempt) : Type 0 where

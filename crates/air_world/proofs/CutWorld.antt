@@ -1,26 +1,8 @@
 -- An event of the server's that is cut keeps a sound world.
 use Rattle.std.proofs.Common.{◌≡◌, ◌≢◌, ◌⊎◌, ℕ, zero, suc, take, ◌<◌, ◌^◌, List, [], Bool, true, false, Option, None, Some, refl, sym, ap, subst, ◌∙◌, inl, inr}
-use Rattle.std.specs.Prelude.{slice_get}
-use Rattle.std.proofs.lemmas.Bool.{cases_eq}
-use Rattle.std.proofs.lemmas.Option.{same_Some}
-use Rattle.ax25_link.specs.Air.{Transmission}
-use Rattle.ax25_link.specs.Rows.{is_call}
-use Rattle.node.specs.Events.{hears as frame_comes}
-use Rattle.file_store.specs.Command.{AreAllowed, Command, DropsNothing, after_all}
-use Rattle.file_store.specs.OnDisk.{after_first}
-use Rattle.file_store.specs.Store.{Store}
-use Rattle.ftl0_server.specs.Connection.Connected.{Connected}
+use Rattle.file_store.specs.Command.{after_all}
 use Rattle.server_laws.specs.Steps.{HasStep, SomeStepLaw}
-use Rattle.air_attempt.specs.Laws.{LeftLaw}
-use Rattle.air_attempt.specs.Party.{Party, sessions_over}
-use Rattle.air_attempt.specs.Transfers.{connection_of}
-use Rattle.air_files.specs.Facts.{HasFacts}
-use Rattle.air_files.specs.Laws.{LeftIn, StayLaw}
-use Rattle.air_files.specs.SoundStore.{IsSoundStore}
-use Rattle.air_world.specs.Cuts.{server_commands}
-use Rattle.air_world.specs.Sound.{Sound}
-use Rattle.air_world.specs.StationLaws.{HearingLaws}
-use Rattle.air_world.specs.World.{PartyAt, World}
+use Rattle.air_world.proofs.Names.{slice_get, cases_eq, same_Some, Transmission, is_call, hears as frame_comes, AreAllowed, Command, DropsNothing, after_first, Store, Connected, LeftLaw, Party, sessions_over, connection_of, HasFacts, LeftIn, StayLaw, IsSoundStore, server_commands, Sound, HearingLaws, PartyAt, World}
 use Rattle.air_world.proofs.Marked.{IsComing, are-marked, delivered, none-marked}
 use Rattle.air_world.proofs.Seats.{between, connection-none}
 use Rattle.air_world.proofs.Served.{done-are, keeps, stands}

@@ -1,8 +1,5 @@
 -- What is promised of a sound world holds also while its next event is under way.
-use Rattle.pfh_items.specs.Laws.{HasNoFault, HasNoFront}
-use Rattle.file_entries.specs.Follows.{FollowsLaw}
-use Rattle.air_world.specs.Laws.{PrefixesLaw}
-use Rattle.air_world.specs.StationLaws.{StationLaws}
+use Rattle.air_world.proofs.Names.{HasNoFault, HasNoFront, FollowsLaw, PrefixesLaw, StationLaws}
 use Rattle.air_world.proofs.DuringClient.{during-client}
 use Rattle.air_world.proofs.DuringServer.{during-server}
 

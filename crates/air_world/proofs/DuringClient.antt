@@ -1,38 +1,11 @@
 -- What is promised holds while an event of a client's is under way, with its notes after the first of its commands.
 use Rattle.std.proofs.Common.{◌≡◌, ℕ, zero, suc, List, [], ◌∷◌, length, Some, refl, sym, ap, subst}
-use Rattle.sha2.specs.Sha256.{sha256}
-use Rattle.std.specs.Prelude.{slice_get}
-use Rattle.std.proofs.lemmas.Option.{same_Some}
-use Rattle.pfh_items.specs.Laws.{HasNoFault, HasNoFront}
-use Rattle.ax25_link.specs.Air.{Transmission}
-use Rattle.client_notes.specs.Answers.{fresh_task}
-use Rattle.client_notes.specs.Command.{NotesCommand}
-use Rattle.client_notes.specs.Laws.{after_all}
-use Rattle.client_notes.specs.Notes.{Lists}
 use Rattle.client_notes.specs.Several as notes
-use Rattle.ftl0_job.specs.Directory.{new_directory}
-use Rattle.ftl0_job.specs.Download.{new_download}
-use Rattle.ftl0_job.specs.Table.{new_job}
-use Rattle.ftl0_job.specs.Upload.{new_upload}
-use Rattle.ftl0_job.specs.declared.work.Work.{Work}
 use Rattle.ftl0_job.specs.declared.work.Work.TheVariants as work
 use Rattle.ftl0_client.specs.Client as client
-use Rattle.ftl0_client.specs.Client.{ClientEvent, asks}
-use Rattle.ftl0_client.specs.Laws.{SomeStepLaw}
-use Rattle.air_attempt.specs.Attempt.{Attempt}
-use Rattle.air_attempt.specs.Lists.{Placed}
-use Rattle.air_attempt.specs.Party.{Asked, Party, to_client_delivered, with_newest}
-use Rattle.air_files.specs.Facts.{HasFacts}
-use Rattle.air_files.specs.Laws.{started_with}
-use Rattle.air_world.specs.Cuts.{client_commands}
-use Rattle.air_world.specs.Events.{ClientPart, ClientTakes, DeliversToClient, IsPartOf, IsResuming, asking, asking_file, next_upload, part_with, with_current}
-use Rattle.air_world.specs.Headline.{HeadlineIn}
-use Rattle.air_world.specs.Laws.{noted_first}
-use Rattle.air_world.specs.Lawful.{HasParty, IsPossible, MayCome}
-use Rattle.air_world.specs.Schedule.{Event, ask_download, ask_list, ask_resume, ask_upload, break_client, cut_client, cut_server, tick_client, tick_server, to_client, to_server}
-use Rattle.air_world.specs.Sound.{Sound}
-use Rattle.air_world.specs.StationLaws.{ClientLaws}
-use Rattle.air_world.specs.World.{PartyAt, World}
+use Rattle.ftl0_client.specs.Client.{ClientEvent}
+use Rattle.air_world.specs.Events.{DeliversToClient}
+use Rattle.air_world.proofs.Names.{sha256, slice_get, same_Some, HasNoFault, HasNoFront, Transmission, fresh_task, NotesCommand, after_all, Lists, new_directory, new_download, new_job, new_upload, Work, asks, SomeStepLaw, Attempt, Placed, Asked, Party, to_client_delivered, with_newest, HasFacts, started_with, client_commands, ClientPart, ClientTakes, IsPartOf, IsResuming, asking, asking_file, next_upload, part_with, with_current, HeadlineIn, noted_first, HasParty, IsPossible, MayCome, Event, ask_download, ask_list, ask_resume, ask_upload, break_client, cut_client, cut_server, tick_client, tick_server, to_client, to_server, Sound, ClientLaws, PartyAt, World}
 use Rattle.air_world.proofs.ClientHeard.{IsReceiving, heard-facts, nothing-noted}
 use Rattle.air_world.proofs.CutWorld.{take-none}
 use Rattle.air_world.proofs.DuringNotes.{AreRight, StaysBut, headline-noted}

@@ -1,27 +1,10 @@
 -- What is promised holds where a client's notes say more, as far as they are right.
 use Rattle.std.proofs.Common.{◌≡◌, ◌⊎◌, ℕ, List, Some, sym, ap, subst, ◌∙◌, inl, inr}
-use Rattle.std.specs.Prelude.{slice_get}
-use Rattle.pfh_items.specs.Laws.{HasNoFault, HasNoFront}
-use Rattle.file_store.specs.Store.{Store}
-use Rattle.ftl0_session.specs.Downloads.Table.{file_of}
-use Rattle.client_notes.specs.Answers.{noted_at}
-use Rattle.client_notes.specs.Notes.{Lists, got_of}
 use Rattle.client_notes.specs.declared.answers.Noted.TheVariants as noted
 use Rattle.ftl0_job.specs.declared.ending.Outcome.TheVariants as reached
-use Rattle.ftl0_client.specs.Attempt.Attempted.{outcome_of}
-use Rattle.ftl0_client.specs.Outcomes.{outcome_by}
-use Rattle.ftl0_client.specs.declared.attempt.outcome.AttemptOutcome.TheVariants.{Reached}
 use Rattle.ftl0_client.specs.declared.outcome.Outcome.TheVariants as outcome
-use Rattle.air_attempt.specs.Attempt.{Attempt}
-use Rattle.air_attempt.specs.Party.{Asked, IsFileOf, Party, newest}
-use Rattle.air_attempt.specs.Said.{Offers}
-use Rattle.air_attempt.specs.Sides.{ClientSide, ServerSide}
-use Rattle.air_attempt.proofs.Offered.{set-at}
 use Rattle.air_files.specs.Kept.{HoldsAck, IsKept, IsTaskKept}
-use Rattle.air_world.specs.Headline.{HasWhole, HeadlineIn}
-use Rattle.air_world.specs.Offered.{Offered}
-use Rattle.air_world.specs.Sound.{Sound}
-use Rattle.air_world.specs.World.{PartyAt, World, with_party}
+use Rattle.air_world.proofs.Names.{slice_get, HasNoFault, HasNoFront, Store, file_of, noted_at, Lists, got_of, outcome_of, outcome_by, Reached, Attempt, Asked, IsFileOf, Party, newest, Offers, ClientSide, ServerSide, set-at, HasWhole, HeadlineIn, Offered, Sound, PartyAt, World, with_party}
 use Rattle.air_world.proofs.PartsLemmas.{are-offered, fetched-current, has-headline}
 
 -- The client is that one, but for its notes, and for what is marked as delivered of its transmissions.

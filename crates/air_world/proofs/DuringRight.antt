@@ -1,17 +1,6 @@
 -- Notes of a client that are right: those that it has, with a fresh task, and those by which the facts hold.
 use Rattle.std.proofs.Common.{ℕ, [], ◌∷◌, length}
-use Rattle.sha2.specs.Sha256.{sha256}
-use Rattle.pfh_items.specs.Laws.{HasNoFault, HasNoFront}
-use Rattle.client_notes.specs.Answers.{fresh_task}
-use Rattle.client_notes.specs.Laws.{after_all}
-use Rattle.client_notes.specs.Notes.{Lists, got_of}
-use Rattle.air_attempt.specs.Party.{Asked, Party}
-use Rattle.air_attempt.proofs.Offered.{all-at}
-use Rattle.air_files.specs.Facts.{HasFacts, HasFetched}
-use Rattle.air_files.specs.Laws.{started_with}
-use Rattle.air_files.proofs.Offered.{tasked-acked}
-use Rattle.air_world.specs.Sound.{Sound}
-use Rattle.air_world.specs.World.{PartyAt, World}
+use Rattle.air_world.proofs.Names.{sha256, HasNoFault, HasNoFront, fresh_task, after_all, Lists, got_of, Asked, Party, all-at, HasFacts, HasFetched, started_with, tasked-acked, Sound, PartyAt, World}
 use Rattle.air_world.proofs.DuringNotes.{AreRight}
 use Rattle.air_world.proofs.PartsLemmas.{has-headline}
 use Rattle.air_world.proofs.WholeLemmas.{whole-got}

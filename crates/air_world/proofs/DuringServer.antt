@@ -1,17 +1,6 @@
 -- What is promised holds while an event of the server's is under way, in the store after the first of its commands.
 use Rattle.std.proofs.Common.{ℕ}
-use Rattle.pfh_items.specs.Laws.{HasNoFault, HasNoFront}
-use Rattle.node.specs.Events.{NodeEvent}
-use Rattle.file_entries.specs.Follows.{FollowsLaw}
-use Rattle.file_store.specs.OnDisk.{after_first}
-use Rattle.air_world.specs.Cuts.{server_commands}
-use Rattle.air_world.specs.Events.{ServerTakes}
-use Rattle.air_world.specs.Headline.{HeadlineIn}
-use Rattle.air_world.specs.Lawful.{IsPossible}
-use Rattle.air_world.specs.Schedule.{Event}
-use Rattle.air_world.specs.Sound.{Sound}
-use Rattle.air_world.specs.StationLaws.{ServerLaws}
-use Rattle.air_world.specs.World.{World}
+use Rattle.air_world.proofs.Names.{HasNoFault, HasNoFront, NodeEvent, FollowsLaw, after_first, server_commands, ServerTakes, HeadlineIn, IsPossible, Event, Sound, ServerLaws, World}
 use Rattle.air_world.proofs.Following.{does-so}
 use Rattle.air_world.proofs.HeadlineLemmas.{headline-follows}
 use Rattle.air_world.proofs.PartsLemmas.{are-offered, has-headline}

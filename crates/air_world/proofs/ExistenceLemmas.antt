@@ -1,39 +1,11 @@
 -- Where an event may come there is a step.
 use Rattle.std.proofs.Common.{◌≡◌, ℕ, zero, suc, ◌-◌, ◌<◌, [], length, reverse, get_or, refl, sym, subst, arith, Bool}
 use Rattle.std.proofs.Common.{true, false, Option, None, Some, inl, inr}
-use Rattle.std.specs.List.{position}
-use Rattle.std.specs.Option.{option_map}
-use Rattle.std.proofs.lemmas.Bool.Decides.{eqb_tells}
-use Rattle.std.proofs.lemmas.List.{length-reverse}
-use Rattle.std.proofs.lemmas.List.Quantifiers.{position-Some}
-use Rattle.std.proofs.lemmas.Option.{same_Some, slice_get-get_or}
-use Rattle.ax25_link.specs.Air.{Transmission}
-use Rattle.ax25_link.specs.declared.refusal.Refusal.{Refusal}
-use Rattle.ax25_link.specs.Sending.{Sending, next_sending}
-use Rattle.node.specs.Events.{NodeEvent, hears, ticks}
 use Rattle.server_laws.specs.Steps as server
-use Rattle.client_notes.specs.Command.{is_going, new_task}
-use Rattle.client_notes.specs.Notes.{Lists, Task, task_count, task_of}
 use Rattle.ftl0_job.specs.declared.work.Work.TheVariants as work
-use Rattle.ftl0_job.specs.Directory.{new_directory}
-use Rattle.ftl0_job.specs.Download.{new_download}
-use Rattle.ftl0_job.specs.Upload.{new_upload}
-use Rattle.ftl0_client.specs.Attempt.Attempted.{Attempted}
 use Rattle.ftl0_client.specs.Client as client
-use Rattle.ftl0_client.specs.Client.{Client, IsSilent, sends_by, sends_of_attempt, sends_of_link}
 use Rattle.ftl0_client.specs.Laws as law
-use Rattle.air_attempt.specs.Party.{Party, to_client_delivered, to_server_delivered}
-use Rattle.air_files.proofs.Offered.{task-file}
-use Rattle.air_world.specs.Cuts.{ClientDoes, ClientEvent, Happens, ServerDoes, ServerEvent, broken}
-use Rattle.air_world.specs.Events.{ClientPart, ClientTakes, IsResuming, ServerTakes, asking, asking_file, next_upload}
-use Rattle.air_world.specs.Events.{part_with, with_current}
-use Rattle.air_world.specs.Lawful.{IsPossible, last_unfinished}
-use Rattle.air_world.specs.Laws.{ExistenceLaw}
-use Rattle.air_world.specs.Schedule.{Event, ask_download, ask_list, ask_resume, ask_upload, break_client, cut_client}
-use Rattle.air_world.specs.Schedule.{cut_server, tick_client, tick_server, to_client, to_server}
-use Rattle.air_world.specs.Sound.{Sound}
-use Rattle.air_world.specs.Step.{client_started}
-use Rattle.air_world.specs.World.{PartyAt, World, counted, next_moment, with_party}
+use Rattle.air_world.proofs.Names.{position, option_map, eqb_tells, length-reverse, position-Some, same_Some, slice_get-get_or, Transmission, Refusal, Sending, next_sending, NodeEvent, hears, ticks, is_going, new_task, Lists, Task, task_count, task_of, new_directory, new_download, new_upload, Attempted, Client, IsSilent, sends_by, sends_of_attempt, sends_of_link, Party, to_client_delivered, to_server_delivered, task-file, ClientDoes, ClientEvent, Happens, ServerDoes, ServerEvent, broken, ClientPart, ClientTakes, IsResuming, ServerTakes, asking, asking_file, next_upload, part_with, with_current, IsPossible, last_unfinished, ExistenceLaw, Event, ask_download, ask_list, ask_resume, ask_upload, break_client, cut_client, cut_server, tick_client, tick_server, to_client, to_server, Sound, client_started, PartyAt, World, counted, next_moment, with_party}
 
 -- ---- the two stations
 

@@ -1,21 +1,6 @@
 -- The world before a schedule's events is sound.
 use Rattle.std.proofs.Common.{◌≡◌, ◌≢◌, ℕ, zero, suc, ◌≤◌, List, [], ◌∷◌, map, refl, ap, sym, ◌∙◌, subst, arith, Some}
-use Rattle.std.specs.Prelude.{IsTrue, slice_get}
-use Rattle.std.specs.List.{AllByRecursion}
-use Rattle.std.proofs.lemmas.List.{length-map}
-use Rattle.std.proofs.lemmas.List.Elements.{All-from_recursion, All-nil}
-use Rattle.std.proofs.lemmas.Option.{same_Some}
-use Rattle.px_base.specs.CallSign.{CallSign, IsCall, is_call_char}
-use Rattle.ax25_link.specs.Window.{Window, window_of}
-use Rattle.file_store.specs.Store.{empty_store}
-use Rattle.air_attempt.specs.Attempt.{Attempt}
-use Rattle.air_attempt.specs.Party.{OnlyNewestUp, Party, first_party}
-use Rattle.air_attempt.specs.Sides.{ServerSide}
-use Rattle.air_files.specs.SoundStore.{IsSoundStore}
-use Rattle.air_files.proofs.Offered.{facts-first, no-task}
-use Rattle.air_world.specs.Schedule.{AreDistinct, IsSchedule, Schedule}
-use Rattle.air_world.specs.Sound.{ArePlaces, AreStationsOf, IsParty, IsSideAt, Sound}
-use Rattle.air_world.specs.World.{PartyAt, first_world, pacsat, store_blocks}
+use Rattle.air_world.proofs.Names.{IsTrue, slice_get, AllByRecursion, length-map, All-from_recursion, All-nil, same_Some, CallSign, IsCall, is_call_char, Window, window_of, empty_store, Attempt, OnlyNewestUp, Party, first_party, ServerSide, IsSoundStore, facts-first, no-task, AreDistinct, IsSchedule, Schedule, ArePlaces, AreStationsOf, IsParty, IsSideAt, Sound, PartyAt, first_world, pacsat, store_blocks}
 use Rattle.air_world.proofs.ServerCut.{none-connected, none-leaving}
 
 -- the party at a place is the first one of the call there

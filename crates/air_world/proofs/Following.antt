@@ -1,24 +1,8 @@
 -- The store of a sound world follows from one world to the next, and so does what stands while an event is under way.
 use Rattle.std.proofs.Common.{◌≡◌, ℕ, zero, suc, List, [], ◌∷◌, Bool, true, false, length, take, refl, sym, ap, subst, ◌∙◌}
-use Rattle.ax25_link.specs.Air.{Transmission}
-use Rattle.node.specs.Events.{NodeEvent, hears as frame_comes, ticks as tick_comes}
-use Rattle.file_entries.specs.Follows.{Follows}
 use Rattle.file_entries.proofs.Offered.{AreAllowed-first, follows_law, none_dropped}
-use Rattle.file_store.specs.Command.{AreAllowed, Command, DropsNothing, KeepsFile, after, after_all, begin, drop_entry, grow, seal}
-use Rattle.file_store.specs.OnDisk.{after_first}
-use Rattle.file_store.specs.Store.{Store}
-use Rattle.file_store.proofs.Offered.{after_first-all}
-use Rattle.air_attempt.specs.Party.{Party}
-use Rattle.air_files.specs.SoundStore.{NoneGone}
-use Rattle.air_files.proofs.Offered.{such-first}
-use Rattle.air_world.specs.Cuts.{ClientDoes, ClientEvent, ServerDoes, ServerEvent, WorldStep, server_commands}
-use Rattle.air_world.specs.Events.{ClientPart, ServerTakes}
-use Rattle.air_world.specs.Lawful.{IsPossible}
-use Rattle.air_world.specs.Schedule.{Event, ask_download, ask_list, ask_resume, ask_upload, break_client, cut_client, cut_server, tick_client, tick_server, to_client, to_server}
-use Rattle.air_world.specs.Sound.{Sound}
-use Rattle.air_world.specs.StationLaws.{ServerLaws}
-use Rattle.air_world.specs.Step.{ServerGoes}
-use Rattle.air_world.specs.World.{World, next_moment}
+use Rattle.file_store.specs.Command.{after_all}
+use Rattle.air_world.proofs.Names.{Transmission, NodeEvent, hears as frame_comes, ticks as tick_comes, Follows, AreAllowed, Command, DropsNothing, KeepsFile, after, begin, drop_entry, grow, seal, after_first, Store, after_first-all, Party, NoneGone, such-first, ClientDoes, ClientEvent, ServerDoes, ServerEvent, WorldStep, server_commands, ClientPart, ServerTakes, IsPossible, Event, ask_download, ask_list, ask_resume, ask_upload, break_client, cut_client, cut_server, tick_client, tick_server, to_client, to_server, Sound, ServerLaws, ServerGoes, World, next_moment}
 use Rattle.air_world.proofs.CutWorld.{own-left, take-none}
 use Rattle.air_world.proofs.Marked.{IsComing, is-coming}
 use Rattle.air_world.proofs.Seats.{between}

@@ -1,22 +1,17 @@
 -- The files of a schedule's uploads are good: octets, that keep all rules, and not too long.
 use Rattle.std.proofs.Common.{◌≡◌, ℕ, ◌+◌, ◌*◌, ◌%◌, ◌^◌, ◌<◌, ◌≤◌, List, [], ◌∷◌, ◌++◌, length, replicate, refl, sym}
 use Rattle.std.proofs.Common.{ap, ◌∙◌, subst, arith, length-append, true}
-use Rattle.std.specs.List.{AllByRecursion, list_all, range_with_len}
-use Rattle.std.specs.Prelude.{nat_lt, option_map}
-use Rattle.std.proofs.lemmas.Bool.Decides.{nat_tests}
-use Rattle.std.proofs.lemmas.List.{length-map}
-use Rattle.std.proofs.lemmas.List.Elements.{All-from_get_or, All-map, All-weaker}
+use Rattle.std.specs.Prelude.{option_map}
 use Rattle.std.proofs.lemmas.List.Sums.{AllPass-from_list_all}
 use Rattle.std.proofs.lemmas.List.FromFn.{length-range_with_len}
 use Rattle.px_base.specs.Numbers.{le16, le16_octets, le32, le32_octets, sum16}
-use Rattle.px_base.specs.Octets.{IsOctets}
-use Rattle.pfh_items.specs.Faults.{IsFaultless, Stands, StandsOnce, code_of, header_sum, with_content}
+use Rattle.pfh_items.specs.Faults.{Stands}
 use Rattle.pfh_items.specs.Layout.{AreItems, FileText, IsItem, ItemValue, header_text}
 use Rattle.pfh_items.specs.Table.{mandatory_items}
 use Rattle.pfh_items.specs.declared.table.MandatoryItem.{MandatoryItem}
 use Rattle.pfh_items.proofs.Offered.{IsOctets-le16, IsOctets-le32, first_fault-none, octets_as_body}
 use Rattle.pfh_writer.specs.Built.{built_file_len, built_items, built_len, item, items_saying, mandatory_saying}
-use Rattle.air_files.specs.Uploads.{IsGoodFile, body_octets, file_ext, file_header, file_name, upload_file}
+use Rattle.air_world.proofs.Names.{AllByRecursion, list_all, range_with_len, nat_lt, nat_tests, length-map, All-from_get_or, All-map, All-weaker, IsOctets, IsFaultless, StandsOnce, code_of, header_sum, with_content, IsGoodFile, body_octets, file_ext, file_header, file_name, upload_file}
 
 -- the items of an upload's header that says these numbers of its file, with this as header_checksum
 abbrev saying : ℕ → ℕ → ℕ → List ℕ → List ItemValue

@@ -1,9 +1,7 @@
 -- No number is given twice, in a world whose sessions are such as they were.
 use Rattle.std.proofs.Common.{ℕ}
-use Rattle.air_attempt.specs.Party.{Party}
-use Rattle.air_files.specs.Laws.{LookLike}
-use Rattle.air_world.specs.Sound.{AreGrantedOnce, GrantedAt}
-use Rattle.air_world.specs.World.{PartyAt, World}
+use Rattle.air_world.specs.Sound.{GrantedAt}
+use Rattle.air_world.proofs.Names.{Party, LookLike, AreGrantedOnce, PartyAt, World}
 use Rattle.air_world.proofs.Likes.{grants-like, like-at}
 
 -- the client at each place was there, and its attempts were such

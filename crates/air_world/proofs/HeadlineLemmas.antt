@@ -1,13 +1,6 @@
 -- What is promised of uploads and downloads holds still in a store that follows.
 use Rattle.std.proofs.Common.{ℕ}
-use Rattle.file_entries.specs.Follows.{KeepsEntries}
-use Rattle.file_store.specs.Store.{Store}
-use Rattle.client_notes.specs.Notes.{got_of}
-use Rattle.air_files.specs.Facts.{IsOfferKept}
-use Rattle.air_files.proofs.Offered.{keeps-file, keeps-offer, keeps-task_kept}
-use Rattle.air_world.specs.Headline.{HeadlineIn}
-use Rattle.air_world.specs.Offered.{Offered}
-use Rattle.air_world.specs.World.{World}
+use Rattle.air_world.proofs.Names.{KeepsEntries, Store, got_of, IsOfferKept, keeps-file, keeps-offer, keeps-task_kept, HeadlineIn, Offered, World}
 
 -- an offer's number is below the next one, as it is in a sound world
 pub headline-follows : (world : World) (before now : Store) → KeepsEntries before now

@@ -1,19 +1,7 @@
 -- What a frame that the server hears makes of its client's facts.
 use Rattle.std.proofs.Common.{◌≡◌, ◌⊎◌, ℕ, ◌≤◌, List, [], ◌∷◌, ◌++◌, Some, ap}
-use Rattle.std.specs.Prelude.{slice_get}
-use Rattle.std.specs.List.{AllByRecursion}
-use Rattle.std.proofs.lemmas.Option.{same_Some}
-use Rattle.file_entries.specs.Follows.{FollowsBy}
-use Rattle.ftl0_session.specs.Downloads.Needs.{AreComplete}
 use Rattle.ftl0_server.specs.Entries as session
-use Rattle.ftl0_server.specs.Entries.{SessionEntry}
-use Rattle.ftl0_server.specs.ServerStep.{Stepped}
-use Rattle.air_attempt.specs.Attempt.{Attempt}
-use Rattle.air_attempt.specs.Party.{Party}
-use Rattle.air_files.specs.Facts.{HasFacts}
-use Rattle.air_files.specs.Laws.{GrantedAt}
-use Rattle.air_files.specs.SoundStore.{IsSoundStore}
-use Rattle.air_world.specs.World.{World}
+use Rattle.air_world.proofs.Names.{slice_get, AllByRecursion, same_Some, FollowsBy, AreComplete, SessionEntry, Stepped, Attempt, Party, HasFacts, GrantedAt, IsSoundStore, World}
 
 -- what the frame makes of its client's facts, with these attempts, and of store and lists
 pub record OwnMade (old : World) (party : Party) (gives : Stepped) (attempts : List Attempt) : Type 0 where

@@ -1,39 +1,12 @@
 -- A client whose job went on by entries is as it should be.
 use Rattle.std.proofs.Common.{◌≡◌, ℕ, List, [], ◌∷◌, ◌++◌, length, Option, None, Some, refl, sym, ap, subst, ◌∙◌, inl}
 use Rattle.std.proofs.Common.{append-nil, le_refl, take_all}
-use Rattle.std.specs.Prelude.{map, Ok}
-use Rattle.std.specs.List.{AllByRecursion}
-use Rattle.std.proofs.lemmas.Option.{same_Some}
 use Rattle.ftl0_packets.specs.Items.{kind_of_item}
 use Rattle.ax25_link.specs.Ends.{LinkEnd}
-use Rattle.client_notes.specs.Laws.{after_all}
-use Rattle.client_notes.specs.Notes.{Lists}
 use Rattle.client_notes.specs.Several as notes
-use Rattle.client_notes.proofs.Offered.{after_all-append}
-use Rattle.ftl0_job.specs.declared.work.Work.{Work}
-use Rattle.ftl0_job.specs.Promises.{JobStands}
-use Rattle.ftl0_job.specs.Table.{JobState, job_after}
-use Rattle.ftl0_client.specs.Attempt.Attempted.{Attempted}
-use Rattle.ftl0_client.specs.Attempt.Hearing.{with_end}
-use Rattle.ftl0_client.specs.Attempt.Laws.{AttemptStands}
-use Rattle.ftl0_client.specs.Attempt.Taking.{Happened}
-use Rattle.ftl0_client.specs.Client.{Client, heard_by}
+use Rattle.ftl0_client.specs.Client.{heard_by}
 use Rattle.ftl0_client.specs.Entries as job
-use Rattle.ftl0_client.specs.Entries.{JobEntry}
-use Rattle.air_attempt.specs.Attempt.{Attempt, IsAnsweredBy, IsAttempt}
-use Rattle.air_attempt.specs.Laws.{GoesWith}
-use Rattle.air_attempt.specs.Party.{EachAttempt, Party, newest}
-use Rattle.air_attempt.specs.Lists.{AreFirstOf}
-use Rattle.air_attempt.specs.Sides.{ClientSide, ServerSide, said_by_server}
-use Rattle.air_attempt.proofs.Offered.{each-weaker}
-use Rattle.air_files.specs.Facts.{HasFacts}
-use Rattle.air_files.specs.Laws.{IsWorking, JobGoes, JobKeeps, JobTookFront, LooksServed, job_gone, started_with}
-use Rattle.air_files.specs.Laws.{with_job}
-use Rattle.air_files.specs.Tasks.{AreTasks, IsWork, StandsBy}
-use Rattle.air_files.proofs.Offered.{alike-itself, served-itself, tasks-lists}
-use Rattle.air_world.specs.Sound.{IsParty, Sound}
-use Rattle.air_world.specs.StationLaws.{ClientLaws}
-use Rattle.air_world.specs.World.{PartyAt, World}
+use Rattle.air_world.proofs.Names.{map, Ok, AllByRecursion, same_Some, after_all, Lists, after_all-append, Work, JobStands, JobState, job_after, Attempted, with_end, AttemptStands, Happened, Client, JobEntry, Attempt, IsAnsweredBy, IsAttempt, GoesWith, EachAttempt, Party, newest, AreFirstOf, ClientSide, ServerSide, said_by_server, each-weaker, HasFacts, IsWorking, JobGoes, JobKeeps, JobTookFront, LooksServed, job_gone, started_with, with_job, AreTasks, IsWork, StandsBy, alike-itself, served-itself, tasks-lists, IsParty, Sound, ClientLaws, PartyAt, World}
 use Rattle.air_world.proofs.ClientBasics.{HasLink, has-link, its-attempt, stands-job, working}
 use Rattle.air_world.proofs.ClientMade.{IsClientMade}
 use Rattle.air_world.proofs.SessionsStay.{SessionsStay, sessions_of}

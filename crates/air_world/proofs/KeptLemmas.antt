@@ -1,24 +1,8 @@
 -- Each event that may come keeps a sound world.
 use Rattle.std.proofs.Common.{◌≡◌, ℕ, zero, suc, ◌<◌, List, [], Bool, true, refl, sym, ap, subst, ◌∙◌}
-use Rattle.std.proofs.lemmas.Option.{same_Some}
-use Rattle.client_notes.specs.Limits.{most_tasks}
-use Rattle.client_notes.specs.Notes.{task_count}
-use Rattle.ftl0_job.specs.declared.work.Work.{Work}
 use Rattle.ftl0_job.specs.declared.work.Work.TheVariants as work
-use Rattle.ftl0_job.specs.Directory.{new_directory}
-use Rattle.ftl0_job.specs.Download.{new_download}
-use Rattle.ftl0_job.specs.Upload.{new_upload}
 use Rattle.ftl0_client.specs.Client as client
-use Rattle.air_attempt.specs.Party.{Party, to_client_delivered}
-use Rattle.air_files.proofs.Offered.{alike-itself}
-use Rattle.air_world.specs.Cuts.{Changes, ClientDoes, ClientEvent, WorldStep, broken}
-use Rattle.air_world.specs.Events.{ClientPart, asking, asking_file, next_upload, part_with, with_current}
-use Rattle.air_world.specs.Lawful.{IsAllowed}
-use Rattle.air_world.specs.Schedule.{Event, ask_download, ask_list, ask_resume, ask_upload, break_client, cut_client, cut_server, tick_client, tick_server, to_client, to_server}
-use Rattle.air_world.specs.Laws.{SoundLaw}
-use Rattle.air_world.specs.Sound.{Sound}
-use Rattle.air_world.specs.StationLaws.{StationLaws}
-use Rattle.air_world.specs.World.{PartyAt, World, counted, with_party}
+use Rattle.air_world.proofs.Names.{same_Some, most_tasks, task_count, Work, new_directory, new_download, new_upload, Party, to_client_delivered, alike-itself, Changes, ClientDoes, ClientEvent, WorldStep, broken, ClientPart, asking, asking_file, next_upload, part_with, with_current, IsAllowed, Event, ask_download, ask_list, ask_resume, ask_upload, break_client, cut_client, cut_server, tick_client, tick_server, to_client, to_server, SoundLaw, Sound, StationLaws, PartyAt, World, counted, with_party}
 use Rattle.air_world.proofs.FirstLemmas.{first-sound}
 use Rattle.air_world.proofs.ClientsStay.{stay-refl}
 use Rattle.air_world.proofs.Granted.{granted-like}

@@ -48,3 +48,4 @@ mod StoresLemmas
 mod WholeLemmas
 mod WorldLists
 pub mod GoodFile
+mod Names

@@ -1,20 +1,7 @@
 -- Attempts that are such as others were, but for the ends of their links and what was sent.
 use Rattle.std.proofs.Common.{◌≡◌, ℕ, zero, suc, List, [], ◌∷◌, Option, None, Some, refl, sym, ap, subst, ◌∙◌}
-use Rattle.std.specs.Prelude.{slice_get}
-use Rattle.std.specs.List.{AllByRecursion}
-use Rattle.std.specs.Option.{option_map_or, option_or}
-use Rattle.std.proofs.lemmas.Option.{same_Some}
-use Rattle.px_base.specs.CallSign.{CallSign}
-use Rattle.ftl0_session.specs.Table.{State}
 use Rattle.ftl0_server.specs.Entries as session
-use Rattle.ftl0_server.specs.Entries.{SessionEntry}
-use Rattle.ftl0_client.specs.Client.{Client}
-use Rattle.air_attempt.specs.Attempt.{Attempt}
-use Rattle.air_attempt.specs.Party.{Party, newest_side, with_answered, with_newest}
-use Rattle.air_attempt.specs.Said.{Grants}
-use Rattle.air_attempt.specs.Sides.{ClientSide, ServerSide, SessionReaches}
-use Rattle.air_files.specs.Laws.{IsSameParty, LookLike, LooksLike, LooksLikeSession, LooksServed}
-use Rattle.air_files.proofs.Offered.{alike-itself, served-itself}
+use Rattle.air_world.proofs.Names.{slice_get, AllByRecursion, option_map_or, option_or, same_Some, CallSign, State, SessionEntry, Client, Attempt, Party, newest_side, with_answered, with_newest, Grants, ClientSide, ServerSide, SessionReaches, IsSameParty, LookLike, LooksLike, LooksLikeSession, LooksServed, alike-itself, served-itself}
 use Rattle.air_world.proofs.ClientsStay.{ClientsStay, stay-newest}
 
 pub newest-like : (change : Attempt → Attempt) (attempts : List Attempt) → ((a : Attempt) → LooksLike a (change a))

@@ -1,18 +1,6 @@
 -- A world in which a transmission of one client's is marked as delivered to the server.
 use Rattle.std.proofs.Common.{◌≡◌, ◌⊎◌, ℕ, suc, List, Some, refl, sym, ap, subst, ◌∙◌, inl, inr}
-use Rattle.std.specs.Prelude.{slice_get}
-use Rattle.std.proofs.lemmas.List.{length-set}
-use Rattle.std.proofs.lemmas.Option.{same_Some}
-use Rattle.ax25_link.specs.Air.{IsLawful, Transmission}
-use Rattle.air_attempt.specs.Attempt.{Attempt, IsAttempt, IsFromTo}
-use Rattle.air_attempt.specs.Laws.{Calls, DeliversToServer, LeftLaw}
-use Rattle.air_attempt.specs.Party.{Party, newest, to_server_delivered, with_newest}
-use Rattle.air_attempt.proofs.Offered.{all-at, set-at}
-use Rattle.air_files.proofs.Offered.{alike-itself, served-itself}
-use Rattle.air_world.specs.Events.{IsSent, with_current}
-use Rattle.air_world.specs.Lawful.{HasParty, MayCome}
-use Rattle.air_world.specs.Sound.{Sound}
-use Rattle.air_world.specs.World.{PartyAt, World, with_party}
+use Rattle.air_world.proofs.Names.{slice_get, length-set, same_Some, IsLawful, Transmission, Attempt, IsAttempt, IsFromTo, Calls, DeliversToServer, LeftLaw, Party, newest, to_server_delivered, with_newest, all-at, set-at, alike-itself, served-itself, IsSent, with_current, HasParty, MayCome, Sound, PartyAt, World, with_party}
 use Rattle.air_world.proofs.ClientsStay.{newest-stays, stay-refl}
 use Rattle.air_world.proofs.Likes.{newest-like}
 use Rattle.air_world.proofs.Seats.{calls}

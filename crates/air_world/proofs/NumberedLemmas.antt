@@ -1,25 +1,10 @@
 -- Whose a number is: it was given once, to the task of the attempt whose session gave it.
 use Rattle.std.proofs.Common.{◌≡◌, ℕ, List, length, ap, sym, ◌∙◌, subst, Some}
-use Rattle.std.specs.Prelude.{slice_get}
-use Rattle.std.proofs.lemmas.Option.{same_Some}
-use Rattle.client_notes.specs.Answers.{noted_by}
-use Rattle.client_notes.specs.declared.progress.Progress.{Progress}
 use Rattle.client_notes.specs.declared.progress.Progress.TheVariants as progress
 use Rattle.client_notes.specs.declared.answers.Noted.{Noted}
 use Rattle.client_notes.specs.declared.answers.Noted.TheVariants as noted
-use Rattle.ftl0_job.specs.declared.work.Work.{Work}
 use Rattle.ftl0_job.specs.declared.work.Work.TheVariants as work
-use Rattle.air_attempt.specs.Attempt.{Attempt}
-use Rattle.air_attempt.specs.Party.{IsFileOf, Party}
-use Rattle.air_attempt.specs.Said.{AsksUpload, Grants}
-use Rattle.air_attempt.specs.Sides.{ServerSide}
-use Rattle.air_attempt.proofs.Offered.{one-placed}
-use Rattle.air_files.specs.Facts.{HasNumber, IsGranted, IsNumbered}
-use Rattle.air_files.specs.Tasks.{IsTaskFor}
-use Rattle.air_files.proofs.Offered.{acked-task, later-number, task-file}
-use Rattle.air_world.specs.Parts.{AreAcknowledged, AreNumbered}
-use Rattle.air_world.specs.Sound.{AreGrantedOnce, IsParty, Sound}
-use Rattle.air_world.specs.World.{PartyAt, World}
+use Rattle.air_world.proofs.Names.{slice_get, same_Some, noted_by, Progress, Work, Attempt, IsFileOf, Party, AsksUpload, Grants, ServerSide, one-placed, HasNumber, IsGranted, IsNumbered, IsTaskFor, acked-task, later-number, task-file, AreAcknowledged, AreNumbered, AreGrantedOnce, IsParty, Sound, PartyAt, World}
 
 -- a session of this attempt of the client, which is one to send this task's file for the first time, gave the number
 pub record IsTaskGrant (party : Party) (task number : ℕ) : Type 0 where

@@ -1,33 +1,11 @@
 -- A sound world has all parts, and what is promised of uploads and downloads holds in it.
 use Rattle.std.proofs.Common.{◌≡◌, ℕ, refl, ap, sym, ◌∙◌, subst, Option, None, Some}
-use Rattle.std.specs.Prelude.{slice_get}
-use Rattle.std.proofs.lemmas.Option.{same_Some}
-use Rattle.pfh_items.specs.Faults.{fault_code}
-use Rattle.pfh_items.specs.Laws.{HasNoFault, HasNoFront}
 use Rattle.ftl0_job.specs.declared.ending.Outcome.{Outcome}
 use Rattle.ftl0_job.specs.declared.ending.Outcome.TheVariants as reached
 use Rattle.ftl0_job.specs.declared.work.Work.TheVariants as work
-use Rattle.ftl0_job.specs.Upload.{new_upload}
-use Rattle.ftl0_client.specs.Attempt.Attempted.{Attempted, outcome_of}
 use Rattle.ftl0_client.specs.declared.attempt.outcome.AttemptOutcome.{AttemptOutcome}
-use Rattle.ftl0_client.specs.declared.attempt.outcome.AttemptOutcome.TheVariants.{LinkDown, Reached}
 use Rattle.ftl0_client.specs.declared.outcome.Outcome.TheVariants as outcome
-use Rattle.ftl0_client.specs.Outcomes.{outcome_as, outcome_by, outcome_of_job}
-use Rattle.air_attempt.specs.Attempt.{Attempt, IsAnswered, IsAnsweredBy, IsAttempt}
-use Rattle.air_attempt.specs.Lists.{Has}
-use Rattle.air_attempt.specs.Party.{EachSide, IsLinkOf, Party, newest}
-use Rattle.air_attempt.specs.Said.{Grants, Offers}
-use Rattle.air_attempt.specs.Sides.{ServerSide}
-use Rattle.air_attempt.proofs.Offered.{each-at, each-weaker, has-at, one-placed, some-from}
-use Rattle.air_files.specs.Facts.{HasFetched, HasNumber, IsGrantKept, IsOfferKept, got}
-use Rattle.air_files.specs.Tasks.{IsWork}
-use Rattle.air_files.proofs.Offered.{each-side, side-at}
-use Rattle.air_world.specs.Headline.{HasWhole, HeadlineIn}
-use Rattle.air_world.specs.Offered.{Offered}
-use Rattle.air_world.specs.Parts.{AreGranted, AreInState, AreNumbered, DoNumbersFit, DoOctetsFit, EachParty, HasParts}
-use Rattle.air_world.specs.Parts.{IsGiven, OfCurrent}
-use Rattle.air_world.specs.Sound.{IsParty, Sound}
-use Rattle.air_world.specs.World.{PartyAt, World}
+use Rattle.air_world.proofs.Names.{slice_get, same_Some, fault_code, HasNoFault, HasNoFront, new_upload, Attempted, outcome_of, LinkDown, Reached, outcome_as, outcome_by, outcome_of_job, Attempt, IsAnswered, IsAnsweredBy, IsAttempt, Has, EachSide, IsLinkOf, Party, newest, Grants, Offers, ServerSide, each-at, each-weaker, has-at, one-placed, some-from, HasFetched, HasNumber, IsGrantKept, IsOfferKept, got, IsWork, each-side, side-at, HasWhole, HeadlineIn, Offered, AreGranted, AreInState, AreNumbered, DoNumbersFit, DoOctetsFit, EachParty, HasParts, IsGiven, OfCurrent, IsParty, Sound, PartyAt, World}
 use Rattle.air_world.proofs.NumberedLemmas.{IsTaskGrant, are-acknowledged, are-numbered, same-grant, task-grant}
 use Rattle.air_world.proofs.ReceivesLemmas.{receives-file, session-of}
 use Rattle.air_world.proofs.WholeLemmas.{whole-got}

@@ -1,26 +1,9 @@
 -- A world that the server's event made of a sound one is sound where the server, its places, its store and each client's
 -- attempts and facts are as they should be.
 use Rattle.std.proofs.Common.{◌≡◌, ℕ, ◌≤◌, List, Option, None, Some, length, refl, sym, ap, subst, ◌∙◌}
-use Rattle.std.specs.List.{AllByRecursion}
-use Rattle.std.proofs.lemmas.Option.{same_Some}
-use Rattle.px_base.specs.CallSign.{IsCall}
-use Rattle.ftl0_session.specs.Downloads.Needs.{AreComplete}
-use Rattle.ftl0_job.specs.declared.work.Work.{Work}
 use Rattle.ftl0_job.specs.declared.work.Work.TheVariants as work
-use Rattle.ftl0_client.specs.Client.{Client}
 use Rattle.ftl0_client.specs.Laws as client
-use Rattle.ftl0_client.specs.Attempt.Laws.{AttemptStands}
-use Rattle.air_attempt.specs.Attempt.{Attempt}
-use Rattle.air_attempt.specs.Laws.{AreAttempts, Calls, IsBetween}
-use Rattle.air_attempt.specs.Party.{Asked, EachAttempt, IsFileOf, IsLinkOf, Party, newest}
-use Rattle.air_attempt.proofs.Offered.{all-at, all-by, each-weaker}
-use Rattle.air_files.specs.Uploads.{IsGoodFile}
-use Rattle.air_files.specs.Facts.{HasFacts}
-use Rattle.air_files.specs.SoundStore.{IsSoundStore}
-use Rattle.air_files.specs.Tasks.{AreTasks, IsWork, StandsBy}
-use Rattle.air_files.proofs.Offered.{tasks-lists}
-use Rattle.air_world.specs.Sound.{AreGrantedOnce, AreStationsOf, IsParty, Sound}
-use Rattle.air_world.specs.World.{PartyAt, World}
+use Rattle.air_world.proofs.Names.{AllByRecursion, same_Some, IsCall, AreComplete, Work, Client, AttemptStands, Attempt, AreAttempts, Calls, IsBetween, Asked, EachAttempt, IsFileOf, IsLinkOf, Party, newest, all-at, all-by, each-weaker, IsGoodFile, HasFacts, IsSoundStore, AreTasks, IsWork, StandsBy, tasks-lists, AreGrantedOnce, AreStationsOf, IsParty, Sound, PartyAt, World}
 use Rattle.air_world.proofs.ClientsStay.{ClientsStay, stay-each, stay-link, stay-newest}
 use Rattle.air_world.proofs.Seats.{AreSeatsKnown, together}
 

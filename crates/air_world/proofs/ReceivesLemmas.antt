@@ -1,28 +1,12 @@
 -- The file that a session receives is that of the task that has its number.
 use Rattle.std.proofs.Common.{◌≡◌, ◌⊎◌, ℕ, zero, suc, ◌+◌, ◌≤◌, List, [], ◌++◌, length, take, drop, refl, ap, sym, ◌∙◌}
 use Rattle.std.proofs.Common.{subst, arith, true, Some, inl, inr}
-use Rattle.std.specs.List.{AllByRecursion}
-use Rattle.std.proofs.lemmas.List.{length-take-le, take-append-drop}
-use Rattle.px_base.specs.Octets.{IsFront}
-use Rattle.ftl0_session.specs.Table.{State, command, receiving}
 use Rattle.ftl0_server.specs.Entries as session
 use Rattle.ftl0_job.specs.declared.work.Work.TheVariants as work
-use Rattle.ftl0_job.specs.Upload.{new_upload}
-use Rattle.air_attempt.specs.Attempt.{Attempt, IsAttempt, IsAnsweredBy}
-use Rattle.air_attempt.specs.Lists.{Has}
-use Rattle.air_attempt.specs.Party.{IsFileOf, Party}
-use Rattle.air_attempt.specs.Said.{AsksUpload, Grants, octets_come, said_behind_server}
-use Rattle.air_attempt.specs.Sides.{IsSession, ServerSide}
-use Rattle.air_attempt.proofs.Offered.{each-at, one-placed}
 use Rattle.air_files.specs.Dialogue.{Serves}
-use Rattle.air_files.specs.Facts.{GoesOnWithTask, HasNumber, Receives}
-use Rattle.air_files.specs.Tasks.{IsWork}
 use Rattle.air_files.specs.UploadDialogue.{AnsweredFirst, GoesOnWith, IsOfferedBy, IsReceivingState, Receiving}
 use Rattle.air_files.specs.UploadDialogue.{ServesUpload, ended, receives, refused, unasked}
-use Rattle.air_files.proofs.Offered.{side-at}
-use Rattle.air_world.specs.Parts.{AreNumbered, ReceivesFile}
-use Rattle.air_world.specs.Sound.{IsParty, Sound}
-use Rattle.air_world.specs.World.{PartyAt, World}
+use Rattle.air_world.proofs.Names.{AllByRecursion, length-take-le, take-append-drop, IsFront, State, command, receiving, new_upload, Attempt, IsAttempt, IsAnsweredBy, Has, IsFileOf, Party, AsksUpload, Grants, octets_come, said_behind_server, IsSession, ServerSide, each-at, one-placed, GoesOnWithTask, HasNumber, Receives, IsWork, side-at, AreNumbered, ReceivesFile, IsParty, Sound, PartyAt, World}
 use Rattle.air_world.proofs.NumberedLemmas.{same-grant, task-grant}
 
 -- the session of an attempt of a client

@@ -1,23 +1,13 @@
 -- An entry under way that no session receives may be given up: the world stays sound.
 use Rattle.std.proofs.Common.{◌≡◌, ℕ, List, [], ◌∷◌, refl, Bool, true, false, Option, None, Some, inl, inr}
 use Rattle.std.specs.Prelude.{if◌then◌else◌}
-use Rattle.std.specs.Option.{option_map}
-use Rattle.ax25_link.specs.declared.refusal.Refusal.{Refusal}
-use Rattle.file_entries.specs.Follows.{FollowsLaw}
-use Rattle.file_store.specs.Command.{after, drop_entry}
-use Rattle.file_store.specs.Store.{Store}
 use Rattle.ftl0_session.specs.Downloads.Laws.{DueStaysLaw, ListsStayLaw}
 use Rattle.ftl0_session.specs.Downloads.Sending.{due_packet, is_due}
-use Rattle.ftl0_session.specs.Table.{State, download_part, in_session, next_due}
 use Rattle.ftl0_session.specs.Uploads.Failures.{read_fails}
-use Rattle.ftl0_server.specs.Server.{IsSilent, Server, sends_by, sends_of_places}
-use Rattle.ftl0_server.specs.Slots.{PlacesSend, Slot, connected, free, leaving, places_next}
+use Rattle.ftl0_server.specs.Server.{IsSilent, sends_by}
 use Rattle.server_laws.specs.Steps as server
-use Rattle.air_attempt.specs.Party.{Party}
-use Rattle.air_files.proofs.Offered.{drop-keeps, drop-sound, facts-removed}
-use Rattle.air_world.specs.Laws.{RemovalLaw, without_entry}
-use Rattle.air_world.specs.Sound.{ArePlaces, AreStationsOf, GrantedAt, IsParty}
-use Rattle.air_world.specs.World.{PartyAt, World}
+use Rattle.air_world.specs.Sound.{GrantedAt}
+use Rattle.air_world.proofs.Names.{option_map, Refusal, FollowsLaw, after, drop_entry, Store, State, download_part, in_session, next_due, Server, sends_of_places, PlacesSend, Slot, connected, free, leaving, places_next, Party, drop-keeps, drop-sound, facts-removed, RemovalLaw, without_entry, ArePlaces, AreStationsOf, IsParty, PartyAt, World}
 
 -- whether anything is due is told by the state alone
 due-none : (store other : Store) (state : State) (fails : Bool) → next_due store state fails ≡ None

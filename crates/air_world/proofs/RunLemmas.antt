@@ -1,12 +1,6 @@
 -- What is promised holds over a lawful schedule, where it holds of each sound world and each event keeps a world sound.
 use Rattle.std.proofs.Common.{List, [], ◌∷◌, sym, subst}
-use Rattle.std.specs.List.{AllByRecursion}
-use Rattle.air_attempt.proofs.Offered.{each-weaker}
-use Rattle.air_world.specs.Cuts.{IsRun, Plays}
-use Rattle.air_world.specs.Laws.{NoCutsLaw, PartsLaw, PrefixesLaw, ScheduleLaw, SoundLaw}
-use Rattle.air_world.specs.Schedule.{Event, Schedule}
-use Rattle.air_world.specs.Sound.{Sound}
-use Rattle.air_world.specs.World.{World, first_world}
+use Rattle.air_world.proofs.Names.{AllByRecursion, each-weaker, IsRun, Plays, NoCutsLaw, PartsLaw, PrefixesLaw, ScheduleLaw, SoundLaw, Event, Schedule, Sound, World, first_world}
 
 -- each world of a play that begins with a sound one is sound
 pub sound-plays : SoundLaw → (world : World) (events : List Event) (worlds : List World) → Sound world

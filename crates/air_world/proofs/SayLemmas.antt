@@ -1,31 +1,11 @@
 -- In a sound world the fields of all that a client's job says have their ranges.
 use Rattle.std.proofs.Common.{◌≡◌, ◌⊎◌, ℕ, ◌^◌, ◌<◌, ◌≤◌, List, [], ◌∷◌, ◌++◌, Option, None, Some, Ok, refl, inl, inr}
 use Rattle.std.proofs.Common.{ap, ◌∙◌, subst, arith}
-use Rattle.std.specs.Prelude.{length, slice_get}
-use Rattle.std.specs.List.{AllByRecursion}
-use Rattle.std.specs.Option.{option_and_then, option_map}
-use Rattle.std.proofs.lemmas.Bool.{cases_lt}
-use Rattle.std.proofs.lemmas.Option.{same_Some}
 use Rattle.ftl0_packets.specs.Layout.{Fits, Item, PacketValue, ul_go_resp, upload_cmd}
 use Rattle.ftl0_server.specs.Entries as session
-use Rattle.ftl0_server.specs.Entries.{SessionEntry}
-use Rattle.ftl0_job.specs.JobState.{IsNotBegun}
-use Rattle.ftl0_job.specs.Upload.{Upload, new_upload}
-use Rattle.ftl0_job.specs.declared.work.Work.{Work}
 use Rattle.ftl0_job.specs.declared.work.Work.TheVariants as work
-use Rattle.ftl0_client.specs.Client.{ClientEvent, asks, hears, ticks}
-use Rattle.air_attempt.specs.Attempt.{Attempt, IsAnswered, IsAnsweredBy, IsAttempt}
-use Rattle.air_attempt.specs.Laws.{MaySay, MaySayAt, WorkFits}
-use Rattle.air_attempt.specs.Lists.{OneIs}
-use Rattle.air_attempt.specs.Party.{Asked, IsFileOf, Party, newest, upload_of}
-use Rattle.air_attempt.specs.Said.{IsAnswer}
-use Rattle.air_attempt.specs.Sides.{ServerSide}
-use Rattle.air_attempt.proofs.Offered.{all-at}
-use Rattle.air_files.specs.Facts.{GoesOnWithTask, IsGranted}
-use Rattle.air_files.specs.Tasks.{IsWork, StandsBy}
-use Rattle.air_files.specs.Uploads.{IsGoodFile}
-use Rattle.air_world.specs.Sound.{IsParty, Sound}
-use Rattle.air_world.specs.World.{PartyAt, World}
+use Rattle.ftl0_client.specs.Client.{ClientEvent, hears, ticks}
+use Rattle.air_world.proofs.Names.{length, slice_get, AllByRecursion, option_and_then, option_map, cases_lt, same_Some, SessionEntry, IsNotBegun, Upload, new_upload, Work, asks, Attempt, IsAnswered, IsAnsweredBy, IsAttempt, MaySay, MaySayAt, WorkFits, OneIs, Asked, IsFileOf, Party, newest, upload_of, IsAnswer, ServerSide, all-at, GoesOnWithTask, IsGranted, IsWork, StandsBy, IsGoodFile, IsParty, Sound, PartyAt, World}
 
 -- ---- a number that was granted
 

@@ -1,22 +1,7 @@
 -- The server's places and the attempts of its callers, taken apart by caller and put together again.
 use Rattle.std.proofs.Common.{◌≡◌, ℕ, zero, suc, List, [], ◌∷◌, Bool, true, false, Option, None, Some, refl, sym, ap}
 use Rattle.std.proofs.Common.{subst, ◌∙◌, true≢false}
-use Rattle.std.specs.Prelude.{slice_get, IfSome, MatchOption}
-use Rattle.std.specs.Option.{option_or}
-use Rattle.std.specs.List.{AllByRecursion}
-use Rattle.std.proofs.lemmas.Option.{same_Some}
-use Rattle.px_base.specs.CallSign.{CallSign}
-use Rattle.ftl0_server.specs.Connection.Connected.{Connected, caller_of}
-use Rattle.ftl0_server.specs.Server.{Server}
-use Rattle.ftl0_server.specs.Slots.{Slot, connected, place_of}
-use Rattle.air_attempt.specs.Attempt.{Attempt, IsAttempt, IsEndOf}
-use Rattle.air_attempt.specs.Laws.{AreAttempts, Calls, IsBetween, IsNewestSession, IsSeatedIn, SitsBy}
-use Rattle.air_attempt.specs.Party.{AreOver, OnlyNewestUp, Party, newest_side}
-use Rattle.air_attempt.specs.Sides.{ServerSide}
-use Rattle.air_attempt.specs.Transfers.{connection_of}
-use Rattle.air_attempt.proofs.Offered.{all-at, all-by, old-connection, old-none, place-of-is, place-of-not}
-use Rattle.air_world.specs.Sound.{ArePlaces, IsParty, IsSeated, IsSessionOf, IsSideAt, Sound}
-use Rattle.air_world.specs.World.{PartyAt, World}
+use Rattle.air_world.proofs.Names.{slice_get, IfSome, MatchOption, option_or, AllByRecursion, same_Some, CallSign, Connected, caller_of, Server, Slot, connected, place_of, Attempt, IsAttempt, IsEndOf, AreAttempts, Calls, IsBetween, IsNewestSession, IsSeatedIn, SitsBy, AreOver, OnlyNewestUp, Party, newest_side, ServerSide, connection_of, all-at, all-by, old-connection, old-none, place-of-is, place-of-not, ArePlaces, IsParty, IsSeated, IsSessionOf, IsSideAt, Sound, PartyAt, World}
 
 -- ---- the place of a caller
 

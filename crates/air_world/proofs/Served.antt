@@ -1,27 +1,9 @@
 -- A frame that a session of a sound world hears: what its entries keep of the client's facts.
 use Rattle.std.proofs.Common.{◌≡◌, ℕ, List, [], Bool, true, false, Option, Some, sym, ap, subst, ◌∙◌}
-use Rattle.std.specs.Prelude.{IfSome, MatchOption}
-use Rattle.std.specs.List.{AllByRecursion}
-use Rattle.px_base.specs.CallSign.{IsCall}
-use Rattle.ax25_link.specs.Air.{Transmission}
-use Rattle.ax25_link.specs.Rows.{is_call}
-use Rattle.ftl0_session.specs.Run.{Session, session_over}
-use Rattle.ftl0_server.specs.Connection.Connected.{Connected, caller_of}
 use Rattle.ftl0_server.specs.Connection.Hearing.{hearing}
 use Rattle.ftl0_server.specs.Entries as session
-use Rattle.ftl0_server.specs.Entries.{SessionEntry, session_after}
-use Rattle.ftl0_server.specs.Slots.{place_of}
-use Rattle.air_attempt.specs.Attempt.{Attempt, IsAnswered, IsAttempt, IsEndOf}
-use Rattle.air_attempt.specs.Laws.{Calls, IsSeatedIn, IsServedBy}
-use Rattle.air_attempt.specs.Party.{AreOver, OnlyNewestUp, Party}
-use Rattle.air_attempt.specs.Sides.{ServerSide}
-use Rattle.air_attempt.proofs.Offered.{all-at}
-use Rattle.air_files.specs.Laws.{GrantedAt, GrantsOnce, IsServed, SessionGoes, SessionKeeps, Stands}
-use Rattle.air_files.specs.Laws.{session_gone, with_attempt}
 use Rattle.air_world.specs.Sound as sound
-use Rattle.air_world.specs.Sound.{IsParty, Sound}
-use Rattle.air_world.specs.StationLaws.{SessionLaws}
-use Rattle.air_world.specs.World.{PartyAt, World}
+use Rattle.air_world.proofs.Names.{IfSome, MatchOption, AllByRecursion, IsCall, Transmission, is_call, Session, session_over, Connected, caller_of, SessionEntry, session_after, place_of, Attempt, IsAnswered, IsAttempt, IsEndOf, Calls, IsSeatedIn, IsServedBy, AreOver, OnlyNewestUp, Party, ServerSide, all-at, GrantedAt, GrantsOnce, IsServed, SessionGoes, SessionKeeps, Stands, session_gone, with_attempt, IsParty, Sound, SessionLaws, PartyAt, World}
 use Rattle.air_world.proofs.Marked.{IsComing, delivers, from-client, marked}
 use Rattle.air_world.proofs.Seats.{between, calls}
 use Rattle.air_world.proofs.ServerTicked.{its-session}

@@ -1,26 +1,7 @@
 -- An event of the server's that is cut keeps a sound world, where what it leaves of the store does.
 use Rattle.std.proofs.Common.{◌≡◌, ℕ, List, [], ◌∷◌, false, Option, None, Some, length, refl, sym, ap, subst, ◌∙◌}
 use Rattle.std.proofs.Common.{arith}
-use Rattle.std.specs.Prelude.{map, slice_get, MatchOption}
-use Rattle.std.specs.Option.{option_map}
-use Rattle.std.proofs.lemmas.List.{length-map}
-use Rattle.px_base.specs.CallSign.{CallSign}
-use Rattle.ax25_link.specs.Window.{IsWindow, Window}
-use Rattle.file_store.specs.Store.{Store}
-use Rattle.ftl0_server.specs.Connection.Connected.{Connected}
-use Rattle.ftl0_server.specs.Server.{all_free, new_server}
-use Rattle.ftl0_server.specs.Slots.{Slot, connected, free, leaving}
-use Rattle.ftl0_client.specs.Client.{Client}
-use Rattle.air_attempt.specs.Attempt.{Attempt}
-use Rattle.air_attempt.specs.Laws.{AreAttempts, Calls, IsBetween, LeftLaw}
-use Rattle.air_attempt.specs.Party.{AreOver, OnlyNewestUp, Party, all_over, over, sessions_over}
-use Rattle.air_attempt.specs.Sides.{ServerSide}
-use Rattle.air_attempt.proofs.Offered.{all-at, are-over}
-use Rattle.air_files.specs.Facts.{HasFacts}
-use Rattle.air_files.specs.Laws.{LookLike, LooksServed, StayLaw}
-use Rattle.air_files.specs.SoundStore.{IsSoundStore}
-use Rattle.air_world.specs.Sound.{Sound}
-use Rattle.air_world.specs.World.{PartyAt, World, counted}
+use Rattle.air_world.proofs.Names.{map, slice_get, MatchOption, option_map, length-map, CallSign, IsWindow, Window, Store, Connected, all_free, new_server, Slot, connected, free, leaving, Client, Attempt, AreAttempts, Calls, IsBetween, LeftLaw, AreOver, OnlyNewestUp, Party, all_over, over, sessions_over, ServerSide, all-at, are-over, HasFacts, LookLike, LooksServed, StayLaw, IsSoundStore, Sound, PartyAt, World, counted}
 use Rattle.air_world.proofs.Likes.{same-party}
 use Rattle.air_world.proofs.Seats.{between, calls}
 use Rattle.air_world.proofs.ClientsStay.{ClientsStay, over-stays, stay-trans, stay-windows}

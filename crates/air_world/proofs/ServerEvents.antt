@@ -1,18 +1,7 @@
 -- Each event of the server's keeps a sound world.
 use Rattle.std.proofs.Common.{◌≡◌, ℕ, zero, suc, ◌<◌, ◌^◌, Bool, true, false, sym, ap, subst, ◌∙◌, arith}
-use Rattle.ax25_link.specs.Air.{Transmission}
-use Rattle.node.specs.Events.{NodeEvent, hears as frame_comes, ticks as tick_comes}
 use Rattle.file_store.specs.Command.{after_all}
-use Rattle.file_store.specs.OnDisk.{after_first}
-use Rattle.air_attempt.specs.Party.{Party}
-use Rattle.air_attempt.specs.Transfers.{ServerDid}
-use Rattle.air_world.specs.Cuts.{ServerDoes, ServerEvent, ServerIsCut, server_commands}
-use Rattle.air_world.specs.Lawful.{IsAllowed}
-use Rattle.air_world.specs.Schedule.{tick_server, to_server}
-use Rattle.air_world.specs.Sound.{Sound}
-use Rattle.air_world.specs.StationLaws.{ServerLaws}
-use Rattle.air_world.specs.Step.{ServerGoes, parties_after}
-use Rattle.air_world.specs.World.{World, counted, next_moment}
+use Rattle.air_world.proofs.Names.{Transmission, NodeEvent, hears as frame_comes, ticks as tick_comes, after_first, Party, ServerDid, ServerDoes, ServerEvent, ServerIsCut, server_commands, IsAllowed, tick_server, to_server, Sound, ServerLaws, ServerGoes, parties_after, World, counted, next_moment}
 use Rattle.air_world.proofs.CutWorld.{frame-cut-sound, take-none, tick-cut-sound}
 use Rattle.air_world.proofs.Marked.{IsComing, delivered, is-coming}
 use Rattle.air_world.proofs.ServerTicked.{tick-sound}

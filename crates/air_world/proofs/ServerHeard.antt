@@ -1,41 +1,11 @@
 -- A frame that the server hears: what it makes of the client whose frame it is.
 use Rattle.std.proofs.Common.{◌≡◌, ◌⊎◌, ℕ, zero, suc, ◌≤◌, ◌<◌, ◌^◌, List, [], ◌∷◌, Bool, true, false, Option, None}
 use Rattle.std.proofs.Common.{Some, refl, sym, ap, subst, ◌∙◌, inl, inr, true≢false}
-use Rattle.std.specs.Prelude.{slice_get}
-use Rattle.std.specs.List.{AllByRecursion}
-use Rattle.std.specs.Option.{option_map_or}
-use Rattle.std.proofs.lemmas.Option.{same_Some}
-use Rattle.ax25_frames.specs.FrameText.{FrameValue}
-use Rattle.ax25_link.specs.Air.{Transmission}
-use Rattle.ax25_link.specs.Rows.{is_call}
-use Rattle.node.specs.Events.{hears as frame_comes}
-use Rattle.file_entries.specs.Follows.{FollowsBy}
 use Rattle.file_store.specs.Command.{after_all}
-use Rattle.ftl0_session.specs.Downloads.Needs.{AreComplete}
 use Rattle.ftl0_session.specs.Lists.Lists.{has_left}
-use Rattle.ftl0_session.specs.Run.{Session}
-use Rattle.ftl0_server.specs.Connection.Connected.{Connected, caller_of}
 use Rattle.ftl0_server.specs.Connection.Hearing.{with_end}
 use Rattle.ftl0_server.specs.Entries as session
-use Rattle.ftl0_server.specs.Entries.{SessionEntry}
-use Rattle.ftl0_server.specs.ServerStep.{ServerStep, Stepped}
-use Rattle.ftl0_server.specs.Slots.{place_of}
-use Rattle.air_attempt.specs.Attempt.{Attempt, IsAnsweredBy, IsAttempt, IsUnanswered}
-use Rattle.air_attempt.specs.Laws.{AreAttempts, Calls, IsSeatedIn, IsServedBy, SaysFit, SessionHears, StaysServer}
-use Rattle.air_attempt.specs.Laws.{did_in, heard_in}
-use Rattle.air_attempt.specs.Party.{Party, all_over, server_sends, to_server_delivered, with_answered, with_newest}
-use Rattle.air_attempt.specs.Said.{Grants}
-use Rattle.air_attempt.specs.Sides.{ServerSide}
-use Rattle.air_attempt.specs.Transfers.{ServerDid, after_hearing, begun, connection_of, gone_on, has_session, heard_by}
-use Rattle.air_attempt.specs.Transfers.{opened, served}
-use Rattle.air_attempt.proofs.Offered.{place-of-is}
-use Rattle.air_files.specs.Facts.{HasFacts}
-use Rattle.air_files.specs.Laws.{GrantedAt, IsGreeted, LookLike, SessionKeeps, session_gone, with_attempt}
-use Rattle.air_files.specs.SoundStore.{IsSoundStore}
-use Rattle.air_files.proofs.Offered.{alike-itself, over-alike, served-itself}
-use Rattle.air_world.specs.Sound.{Sound}
-use Rattle.air_world.specs.StationLaws.{HearingLaws}
-use Rattle.air_world.specs.World.{World}
+use Rattle.air_world.proofs.Names.{slice_get, AllByRecursion, option_map_or, same_Some, FrameValue, Transmission, is_call, hears as frame_comes, FollowsBy, AreComplete, Session, Connected, caller_of, SessionEntry, ServerStep, Stepped, place_of, Attempt, IsAnsweredBy, IsAttempt, IsUnanswered, AreAttempts, Calls, IsSeatedIn, IsServedBy, SaysFit, SessionHears, StaysServer, did_in, heard_in, Party, all_over, server_sends, to_server_delivered, with_answered, with_newest, Grants, ServerSide, ServerDid, after_hearing, begun, connection_of, gone_on, has_session, heard_by, opened, served, place-of-is, HasFacts, GrantedAt, IsGreeted, LookLike, SessionKeeps, session_gone, with_attempt, IsSoundStore, alike-itself, over-alike, served-itself, Sound, HearingLaws, World}
 use Rattle.air_world.proofs.ClientsStay.{ClientsStay, newest-stays, stay-refl, stay-trans}
 use Rattle.air_world.proofs.Likes.{grants-like, like-at, same-party}
 use Rattle.air_world.proofs.Marked.{IsComing, delivers, from-client, marked}

@@ -1,30 +1,7 @@
 -- A tick of the server keeps a sound world.
 use Rattle.std.proofs.Common.{◌≡◌, ℕ, List, [], true, false, Option, None, Some, refl, sym, subst, ◌∙◌, append-nil, inl}
 use Rattle.std.proofs.Common.{inr}
-use Rattle.std.specs.Prelude.{map, IfSome}
-use Rattle.std.proofs.lemmas.List.{length-map}
-use Rattle.std.proofs.lemmas.Option.{same_Some}
-use Rattle.px_base.specs.CallSign.{CallSign}
-use Rattle.node.specs.Events.{ticks as tick_comes}
-use Rattle.ftl0_session.specs.Table.{command}
-use Rattle.ftl0_session.specs.Downloads.Needs.{AreComplete}
-use Rattle.ftl0_server.specs.Connection.Connected.{Connected, caller_of}
-use Rattle.ftl0_server.specs.Entries.{SessionEntry}
-use Rattle.ftl0_server.specs.Server.{Server}
-use Rattle.ftl0_server.specs.ServerStep.{ServerStep, Stepped}
-use Rattle.air_attempt.specs.Attempt.{Attempt, IsAnswered, IsAnsweredBy, IsAttempt, IsEndOf}
-use Rattle.air_attempt.specs.Laws.{AreAttempts, Calls, IsBetween, IsKnown, ServerTicksLaw, StaysServer, did_in}
-use Rattle.air_attempt.specs.Party.{Party, newest_side}
-use Rattle.air_attempt.specs.Sides.{ServerSide, SessionReaches}
-use Rattle.air_attempt.specs.Transfers.{ServerDid, after_tick, connection_of, did_to, gone_on, served, ticked_by}
-use Rattle.air_attempt.proofs.Offered.{place-of-is}
-use Rattle.air_files.specs.Facts.{HasFacts}
-use Rattle.air_files.specs.Laws.{LookLike, LooksServed, StayLaw}
-use Rattle.air_files.specs.SoundStore.{IsSoundStore}
-use Rattle.air_files.proofs.Offered.{alike-itself}
-use Rattle.air_world.specs.Sound.{Sound}
-use Rattle.air_world.specs.Step.{party_ticked}
-use Rattle.air_world.specs.World.{PartyAt, World, counted}
+use Rattle.air_world.proofs.Names.{map, IfSome, length-map, same_Some, CallSign, ticks as tick_comes, command, AreComplete, Connected, caller_of, SessionEntry, Server, ServerStep, Stepped, Attempt, IsAnswered, IsAnsweredBy, IsAttempt, IsEndOf, AreAttempts, Calls, IsBetween, IsKnown, ServerTicksLaw, StaysServer, did_in, Party, newest_side, ServerSide, SessionReaches, ServerDid, after_tick, connection_of, did_to, gone_on, served, ticked_by, place-of-is, HasFacts, LookLike, LooksServed, StayLaw, IsSoundStore, alike-itself, Sound, party_ticked, PartyAt, World, counted}
 use Rattle.air_world.proofs.ClientsStay.{tick-stays}
 use Rattle.air_world.proofs.Likes.{answered-like, reaches-one, same-party}
 use Rattle.air_world.proofs.Rebuild.{IsMade, StayParties, StaysParty, rebuilt}

@@ -1,32 +1,9 @@
 -- A frame that the server hears keeps a sound world.
 use Rattle.std.proofs.Common.{◌≡◌, ◌≢◌, ◌⊎◌, ℕ, ◌≤◌, ◌<◌, ◌^◌, [], Bool, true, false, Option, Some, refl, sym, ap}
 use Rattle.std.proofs.Common.{subst, ◌∙◌, inl, inr, arith}
-use Rattle.std.specs.Prelude.{map, slice_get, if◌then◌else◌, IfSome}
-use Rattle.std.proofs.lemmas.Bool.{cases_eq}
-use Rattle.std.proofs.lemmas.List.{length-map, length-set}
-use Rattle.std.proofs.lemmas.Option.{same_Some}
-use Rattle.ax25_link.specs.Air.{Transmission}
-use Rattle.ax25_link.proofs.Offered.{slice_get-set_other}
-use Rattle.node.specs.Events.{hears as frame_comes}
-use Rattle.ftl0_session.specs.Uploads.Session.{is_same_call}
-use Rattle.ftl0_session.proofs.uploads.UploadRows.{same_call-decides}
-use Rattle.ftl0_server.specs.Connection.Connected.{caller_of}
-use Rattle.ftl0_server.specs.ServerStep.{ServerStep, Stepped}
-use Rattle.air_attempt.specs.Attempt.{Attempt}
-use Rattle.air_attempt.specs.Laws.{Calls, IsKnown, StaysServer}
-use Rattle.air_attempt.specs.Party.{Party, to_server_delivered}
-use Rattle.air_attempt.specs.Said.{Grants}
-use Rattle.air_attempt.specs.Sides.{ServerSide}
-use Rattle.air_attempt.specs.Transfers.{ServerDid, after_hearing}
-use Rattle.air_attempt.proofs.Offered.{all-at, set-at}
-use Rattle.air_files.specs.Facts.{HasFacts, IsGrantKept}
-use Rattle.air_files.specs.Laws.{GrantedAt}
-use Rattle.air_world.specs.Events.{with_current}
+use Rattle.std.specs.Prelude.{if◌then◌else◌}
 use Rattle.air_world.specs.Sound as sound
-use Rattle.air_world.specs.Sound.{AreGrantedOnce, IsSideAt, Sound}
-use Rattle.air_world.specs.StationLaws.{HearingLaws}
-use Rattle.air_world.specs.Step.{party_heard}
-use Rattle.air_world.specs.World.{PartyAt, World, counted}
+use Rattle.air_world.proofs.Names.{map, slice_get, IfSome, cases_eq, length-map, length-set, same_Some, Transmission, slice_get-set_other, hears as frame_comes, is_same_call, same_call-decides, caller_of, ServerStep, Stepped, Attempt, Calls, IsKnown, StaysServer, Party, to_server_delivered, Grants, ServerSide, ServerDid, after_hearing, all-at, set-at, HasFacts, IsGrantKept, GrantedAt, with_current, AreGrantedOnce, IsSideAt, Sound, HearingLaws, party_heard, PartyAt, World, counted}
 use Rattle.air_world.proofs.ClientsStay.{hearing-stays, newest-stays, stay-refl, stay-trans}
 use Rattle.air_world.proofs.Marked.{IsComing, delivered, from-client, marked}
 use Rattle.air_world.proofs.Rebuild.{IsMade, StayParties, StaysParty, rebuilt}

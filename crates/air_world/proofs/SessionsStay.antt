@@ -1,14 +1,6 @@
 -- Attempts whose sessions are as others' were: a server's places have the same attempts then.
 use Rattle.std.proofs.Common.{◌≡◌, ◌⊎◌, List, [], ◌∷◌, false, Option, None, Some, refl, sym, ap, subst, ◌∙◌, inl, inr}
-use Rattle.std.specs.Prelude.{map, IfSome, MatchOption, ⊤}
-use Rattle.std.specs.List.{AllByRecursion}
-use Rattle.std.specs.Option.{option_or}
-use Rattle.px_base.specs.CallSign.{CallSign}
-use Rattle.ftl0_server.specs.Server.{Server}
-use Rattle.air_attempt.specs.Attempt.{Attempt}
-use Rattle.air_attempt.specs.Laws.{SitsBy}
-use Rattle.air_attempt.specs.Party.{AreOver, OnlyNewestUp, newest_side}
-use Rattle.air_attempt.specs.Sides.{ServerSide}
+use Rattle.air_world.proofs.Names.{map, IfSome, MatchOption, ⊤, AllByRecursion, option_or, CallSign, Server, Attempt, SitsBy, AreOver, OnlyNewestUp, newest_side, ServerSide}
 
 abbrev pub sessions_of : List Attempt → List (Option ServerSide)
 sessions_of attempts = map (λ (a : Attempt). a.server) attempts

@@ -1,7 +1,6 @@
 -- The server's store from one world to the next.
 use Rattle.std.proofs.Common.{refl}
-use Rattle.air_world.specs.Laws.{StoresLaw}
-use Rattle.air_world.specs.StationLaws.{ServerLaws}
+use Rattle.air_world.proofs.Names.{StoresLaw, ServerLaws}
 use Rattle.air_world.proofs.Following.{does-so, follows-blocks, stays-next}
 use Rattle.air_world.proofs.HeadlineLemmas.{headline-follows}
 use Rattle.air_world.proofs.PartsLemmas.{are-offered}

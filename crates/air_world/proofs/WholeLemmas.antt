@@ -1,19 +1,9 @@
 -- What was got of a file and has no fault is the whole file.
 use Rattle.std.proofs.Common.{◌≡◌, ℕ, List, [], ◌++◌, refl, ap, sym, ◌∙◌, subst, append-nil, Option, None, Some}
-use Rattle.std.specs.Option.{option_map}
-use Rattle.std.proofs.lemmas.Option.{same_Some}
-use Rattle.px_base.specs.Octets.{IsFront, IsOctets}
 use Rattle.ftl0_packets.proofs.SplitLemmas.{octets_front}
-use Rattle.pfh_items.specs.Faults.{code_of, fault_code, first_fault}
 use Rattle.pfh_items.specs.declared.fault.FileFault.{FileFault}
-use Rattle.pfh_items.specs.Laws.{HasNoFault, HasNoFront}
 use Rattle.file_store.specs.Headers.{KeepsRules}
-use Rattle.file_store.specs.Store.{Holding, Store, complete, entry_of, octets_of, partial}
-use Rattle.file_store.proofs.Offered.{has_number}
-use Rattle.ftl0_session.specs.Downloads.Table.{complete_octets, file_of}
-use Rattle.air_files.specs.Facts.{AreFirstIfAny}
-use Rattle.air_files.specs.SoundStore.{IsSoundStore}
-use Rattle.air_files.proofs.Offered.{complete-entry, found-such}
+use Rattle.air_world.proofs.Names.{option_map, same_Some, IsFront, IsOctets, code_of, fault_code, first_fault, HasNoFault, HasNoFront, Holding, Store, complete, entry_of, octets_of, partial, has_number, complete_octets, file_of, AreFirstIfAny, IsSoundStore, complete-entry, found-such}
 
 -- no octets are no file
 empty-fault : fault_code [] ≡ None → ⊥

@@ -1,10 +1,6 @@
 -- Lists of clients and of attempts.
 use Rattle.std.proofs.Common.{◌≡◌, ℕ, zero, suc, List, [], ◌∷◌, Bool, true, false, Some, refl, sym, ap}
-use Rattle.std.specs.Prelude.{slice_get, slice_set, map}
-use Rattle.std.proofs.lemmas.Option.{same_Some}
-use Rattle.px_base.specs.CallSign.{CallSign}
-use Rattle.ftl0_session.specs.Uploads.Session.{is_same_call}
-use Rattle.ftl0_session.proofs.uploads.UploadRows.{same_call-decides}
+use Rattle.air_world.proofs.Names.{slice_get, slice_set, map, same_Some, CallSign, is_same_call, same_call-decides}
 
 pub other-call : (one other : CallSign) → (one ≡ other → ⊥) → is_same_call one other ≡ false
 other-call one other differs = by (is_same_call one other) refl

@@ -1,15 +1,10 @@
 -- How far octets begin the characters of an address entry.
 use Rattle.std.proofs.Common.{◌≡◌, ℕ, zero, suc, ◌+◌, ◌-◌, ◌*◌, ◌/◌, ◌%◌, ◌≤◌, ◌<◌, ◌==◌, Bool, true, false, cond, List, [], ◌∷◌, ◌++◌, length, map, take, drop, replicate, refl, sym, ap, ◌∙◌, subst, arith, append-nil, length-append, length-take-le}
-use Rattle.std.specs.Prelude.{IsTrue, ◌&&◌}
+use Rattle.std.specs.Prelude.{◌&&◌}
 use Rattle.std.specs.List.{AllByRecursion, prefix_len}
-use Rattle.std.proofs.lemmas.Bool.{eqb-true, eq-eqb, ne_eqb}
 use Rattle.std.proofs.lemmas.List.Sums.{prefix_len-le-length}
 use Rattle.std.proofs.Math.Seq.{take-nil}
-use Rattle.std.proofs.lemmas.List.{length-take, map-append, nil_from_length}
-use Rattle.std.proofs.lemmas.List.Elements.{All-from_recursion, recursion_from_All}
-use Rattle.px_base.specs.CallSign.{CallSign, IsCall, IsBase, is_call_char, padded}
-use Rattle.ax25_frames.specs.Addresses.{character_octets}
-use Rattle.ax25_frames.specs.Reading.{is_character, is_blank, run_length, characters_begun}
+use Rattle.ax25_frames.proofs.Names.{IsTrue, eqb-true, eq-eqb, ne_eqb, length-take, map-append, nil_from_length, All-from_recursion, recursion_from_All, CallSign, IsCall, IsBase, is_call_char, padded, character_octets, is_character, is_blank, run_length, characters_begun}
 use Rattle.ax25_frames.proofs.EntryLemmas.{length_characters}
 
 -- each of these characters may stand in a call

@@ -1,14 +1,8 @@
 -- What a control octet and the octets after it say, or how they fail.
 use Rattle.std.proofs.Common.{◌≡◌, ◌⊎◌, ℕ, ◌+◌, ◌-◌, ◌*◌, ◌/◌, ◌%◌, ◌<◌, ◌==◌, Bool, true, false, List, length, refl, arith, inl, inr}
 use Rattle.std.specs.Prelude.{if◌then◌else◌}
-use Rattle.std.proofs.lemmas.Bool.{cases_Bool, cases_lt, eqb-false, eqb-true}
-use Rattle.px_base.specs.Octets.{IsOctets}
-use Rattle.ax25_frames.specs.declared.control.Control.{Control}
 use Rattle.ax25_frames.specs.declared.control.Control.TheVariants as control
-use Rattle.ax25_frames.specs.declared.frame.FrameFault.{FrameFault}
-use Rattle.ax25_frames.specs.declared.frame.FrameFault.TheVariants.{LongInfo, Short}
-use Rattle.ax25_frames.specs.Kinds.{FitsControl, FitsKind, IsNoControl, SaysControl, fields_of, kind_row}
-use Rattle.ax25_frames.specs.Faults.{IsRestFault}
+use Rattle.ax25_frames.proofs.Names.{cases_Bool, cases_lt, eqb-false, eqb-true, IsOctets, Control, FrameFault, LongInfo, Short, FitsControl, FitsKind, IsNoControl, SaysControl, fields_of, kind_row, IsRestFault}
 use Rattle.ax25_frames.proofs.KindLemmas.{control_from, kind_of, kind_of-fits, says_none}
 use Rattle.ax25_frames.proofs.ReadLemmas.{bit_mod}
 

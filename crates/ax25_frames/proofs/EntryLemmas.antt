@@ -1,9 +1,6 @@
 -- Address entries one after another can be cut in one way only.
 use Rattle.std.proofs.Common.{◌≡◌, ℕ, ◌+◌, ◌*◌, ◌≤◌, ◌<◌, Bool, true, false, List, [], ◌∷◌, ◌++◌, length, map, refl, sym, ap, ◌∙◌, arith, append_assoc, append-nil, length-append}
-use Rattle.std.proofs.lemmas.Grind.{common_steps}
-use Rattle.px_base.specs.CallSign.{CallSign, IsCall, padded}
-use Rattle.ax25_frames.specs.Kinds.{bit}
-use Rattle.ax25_frames.specs.Addresses.{Entry, IsEntry, AreEntries, character_octets, ssid_octet, entry_octets, is_none, address_field, unended}
+use Rattle.ax25_frames.proofs.Names.{common_steps, CallSign, IsCall, padded, bit, Entry, IsEntry, AreEntries, character_octets, ssid_octet, entry_octets, is_none, address_field, unended}
 
 length_padded : (base : List ℕ) → length base ≤ 6 → length (padded base) ≡ 6
 length_padded base h = grind (arith, common_steps)

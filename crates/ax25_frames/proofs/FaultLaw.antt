@@ -1,15 +1,6 @@
 -- Octets have one fault at most.
 use Rattle.std.proofs.Common.{◌≡◌, ℕ, ◌+◌, ◌*◌, ◌≤◌, ◌<◌, Bool, false, List, [], ◌∷◌, ◌++◌, length, take, drop, slice_index, refl, sym, ap, ◌∙◌, subst, inl, inr, arith, append_assoc, append-nil, length-append, length-take-le, take-append-drop}
-use Rattle.std.proofs.lemmas.Bool.{cases_lt}
-use Rattle.std.proofs.lemmas.Grind.{common_steps}
-use Rattle.std.proofs.lemmas.List.{append_cancel_right, take_at, take-take}
-use Rattle.ax25_frames.specs.declared.frame.FrameFault.{FrameFault}
-use Rattle.ax25_frames.specs.declared.frame.FrameFault.TheVariants.{Short, BadAddress, TooManyAddresses, BadControl, LongInfo}
-use Rattle.ax25_frames.specs.declared.control.Control.{Control}
-use Rattle.ax25_frames.specs.Kinds.{KindValue, control_octet, fields_of, FitsKind}
-use Rattle.ax25_frames.specs.Addresses.{Entry, IsEntry, AreEntries, character_octets, ssid_octet, address_field, unended, BeginsUnended, IsAddressField}
-use Rattle.ax25_frames.specs.Faults.{BeginsFrame, FailsAt, FaultAt}
-use Rattle.ax25_frames.specs.Laws.{IsOneFault}
+use Rattle.ax25_frames.proofs.Names.{cases_lt, common_steps, append_cancel_right, take_at, take-take, FrameFault, Short, BadAddress, TooManyAddresses, BadControl, LongInfo, Control, KindValue, control_octet, fields_of, FitsKind, Entry, IsEntry, AreEntries, character_octets, ssid_octet, address_field, unended, BeginsUnended, IsAddressField, BeginsFrame, FailsAt, FaultAt, IsOneFault}
 use Rattle.ax25_frames.proofs.EntryLemmas.{length_characters, length_unended, length_field, field_one, peel, unended_more}
 use Rattle.ax25_frames.proofs.FrameLemmas.{parts, begins_front, begins_whole, begun_entries}
 use Rattle.ax25_frames.proofs.KindLemmas.{control_one}

@@ -1,20 +1,7 @@
 -- The first fault of octets, part by part: the address entries, the control octet, and what follows it.
 use Rattle.std.proofs.Common.{◌≡◌, ℕ, suc, ◌+◌, ◌*◌, ◌≤◌, ◌<◌, Bool, true, false, List, [], ◌∷◌, ◌++◌, length, take, drop, min, slice_index, refl, sym, ap, ◌∙◌, subst, arith, append_assoc, append-nil, length-append, length-drop, length-take-le, take-append-drop}
-use Rattle.std.proofs.lemmas.Grind.{common_steps}
-use Rattle.std.proofs.lemmas.List.{take_all, take_at}
-use Rattle.std.proofs.lemmas.List.Elements.{All-take}
-use Rattle.px_base.specs.CallSign.{CallSign, IsCall}
-use Rattle.ax25_frames.specs.declared.control.Control.{Control}
 use Rattle.ax25_frames.specs.declared.control.Control.TheVariants as control
-use Rattle.ax25_frames.specs.declared.frame.FrameFault.{FrameFault}
-use Rattle.ax25_frames.specs.declared.frame.FrameFault.TheVariants.{Short, BadAddress, TooManyAddresses, BadControl, LongInfo}
-use Rattle.px_base.specs.Octets.{IsOctets}
-use Rattle.ax25_frames.specs.Kinds.{KindValue, control_octet, fields_of, FitsControl, IsNoControl, FitsKind, kind_octets}
-use Rattle.ax25_frames.specs.Values.{bare_value}
-use Rattle.ax25_frames.specs.Addresses.{Entry, AreEntries, character_octets, ssid_octet, entry_octets, is_none, address_field, unended, BeginsUnended}
-use Rattle.ax25_frames.specs.FrameText.{FrameValue, FrameText}
-use Rattle.ax25_frames.specs.Faults.{BeginsFrame, FailsAt, FaultAt, IsRestFault}
-use Rattle.ax25_frames.specs.Reading.{characters_begun, EntryAt}
+use Rattle.ax25_frames.proofs.Names.{common_steps, take_all, take_at, All-take, CallSign, IsCall, Control, FrameFault, Short, BadAddress, TooManyAddresses, BadControl, LongInfo, IsOctets, KindValue, control_octet, fields_of, FitsControl, IsNoControl, FitsKind, kind_octets, bare_value, Entry, AreEntries, character_octets, ssid_octet, entry_octets, is_none, address_field, unended, BeginsUnended, FrameValue, FrameText, BeginsFrame, FailsAt, FaultAt, IsRestFault, characters_begun, EntryAt}
 use Rattle.ax25_frames.proofs.CharacterLemmas.{begun_is}
 use Rattle.ax25_frames.proofs.EntryLemmas.{cut, entry_cut, field_one, IsPeeled, peel, length_characters, length_entry, length_field, length_unended, unended_more, AreEntries_more}
 use Rattle.ax25_frames.proofs.FrameLemmas.{parts, frame_of, text_of, front_text, begun_entries}

@@ -1,16 +1,6 @@
 -- Octets are those of a frame, or have a fault.
 use Rattle.std.proofs.Common.{◌≡◌, ◌⊎◌, ℕ, zero, suc, ◌+◌, ◌*◌, ◌≤◌, ◌<◌, Bool, true, false, List, [], length, drop, min, slice_index, refl, subst, arith, inl, inr, take-append-drop}
-use Rattle.std.proofs.lemmas.Bool.{cases_lt}
-use Rattle.px_base.specs.CallSign.{CallSign}
-use Rattle.ax25_frames.specs.declared.frame.FrameFault.{FrameFault}
-use Rattle.ax25_frames.specs.declared.frame.FrameFault.TheVariants.{BadAddress, BadControl, Short, TooManyAddresses}
-use Rattle.px_base.specs.Octets.{IsOctets}
-use Rattle.ax25_frames.specs.Kinds.{fields_of, poll_bit}
-use Rattle.ax25_frames.specs.Addresses.{BeginsUnended}
-use Rattle.ax25_frames.specs.FrameText.{FrameText, FrameValue}
-use Rattle.ax25_frames.specs.Faults.{FaultAt}
-use Rattle.ax25_frames.specs.Laws.{IsFrameOrFault}
-use Rattle.ax25_frames.specs.Reading.{AddressesAt, EntryAt, RepeatersAt, characters_begun}
+use Rattle.ax25_frames.proofs.Names.{cases_lt, CallSign, FrameFault, BadAddress, BadControl, Short, TooManyAddresses, IsOctets, fields_of, poll_bit, BeginsUnended, FrameText, FrameValue, FaultAt, IsFrameOrFault, AddressesAt, EntryAt, RepeatersAt, characters_begun}
 use Rattle.ax25_frames.proofs.FaultLemmas.{bad_entry, ended_destination, more_unended, short_entry, too_many}
 use Rattle.ax25_frames.proofs.ReadLemmas.{AreRepeaters, addresses_more, addresses_two, control_fault, entry_read, frame_at, octets_after, repeaters_begin, repeaters_end, repeaters_more, rest_fault_at, short_at}
 use Rattle.ax25_frames.proofs.ControlCases.{control_or_none, rest_or_fault}

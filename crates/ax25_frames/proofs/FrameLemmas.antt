@@ -1,15 +1,7 @@
 -- Frames from their parts, and which octets can be completed to a frame's.
 use Rattle.std.proofs.Common.{◌≡◌, ℕ, ◌+◌, ◌≤◌, Bool, true, false, not, List, [], ◌∷◌, ◌++◌, length, take, drop, refl, sym, ap, ◌∙◌, subst, arith, append_assoc, append-nil, length-append, take-append-drop}
-use Rattle.std.proofs.lemmas.Grind.{common_steps}
-use Rattle.px_base.specs.CallSign.{CallSign}
-use Rattle.ax25_frames.specs.declared.frame.FrameFault.TheVariants.{Short, BadAddress, TooManyAddresses, BadControl, LongInfo}
 use Rattle.ax25_frames.specs.declared.control.Control.TheVariants as control
-use Rattle.ax25_frames.specs.Kinds.{KindValue, control_octet, FitsKind, kind_octets}
-use Rattle.ax25_frames.specs.Values.{bare_value}
-use Rattle.ax25_frames.specs.Addresses.{Entry, IsEntry, AreEntries, character_octets, ssid_octet, entry_octets, address_field, unended}
-use Rattle.ax25_frames.specs.FrameText.{FrameValue, FrameText}
-use Rattle.ax25_frames.specs.Faults.{BeginsFrame}
-use Rattle.ax25_frames.specs.Laws.{IsOneFrame, IsCanonical, IsNoFrame}
+use Rattle.ax25_frames.proofs.Names.{common_steps, CallSign, Short, BadAddress, TooManyAddresses, BadControl, LongInfo, KindValue, control_octet, FitsKind, kind_octets, bare_value, Entry, IsEntry, AreEntries, character_octets, ssid_octet, entry_octets, address_field, unended, FrameValue, FrameText, BeginsFrame, IsOneFrame, IsCanonical, IsNoFrame}
 use Rattle.ax25_frames.proofs.EntryLemmas.{field_one, field_last, AreEntries_more}
 use Rattle.ax25_frames.proofs.KindLemmas.{kind_one, sabm_fits}
 

@@ -1,13 +1,8 @@
 -- The octets of a kind say the kind.
 use Rattle.std.proofs.Common.{◌≡◌, ◌≢◌, ℕ, ◌+◌, ◌-◌, ◌*◌, ◌/◌, ◌%◌, ◌≤◌, ◌<◌, ◌==◌, Bool, List, [], ◌∷◌, ◌++◌, length, take, drop, replicate, refl, sym, ap, ◌∙◌, arith, length-append, length-take-le, length-drop, take-append-drop}
 use Rattle.std.specs.Prelude.{if◌then◌else◌}
-use Rattle.std.proofs.lemmas.Bool.{eq-eqb, ne_eqb}
-use Rattle.std.proofs.lemmas.List.{length-replicate}
-use Rattle.std.proofs.lemmas.List.Elements.{All-append, All-cons, All-drop, All-head, All-nil, All-replicate, All-tail, All-take}
-use Rattle.px_base.specs.Octets.{IsOctets}
-use Rattle.ax25_frames.specs.declared.control.Control.{Control}
 use Rattle.ax25_frames.specs.declared.control.Control.TheVariants as control
-use Rattle.ax25_frames.specs.Kinds.{KindValue, kind_row, fields_of, information_fields, bit, control_octet, FitsControl, IsNoControl, FitsKind, kind_octets}
+use Rattle.ax25_frames.proofs.Names.{eq-eqb, ne_eqb, length-replicate, All-append, All-cons, All-drop, All-head, All-nil, All-replicate, All-tail, All-take, IsOctets, Control, KindValue, kind_row, fields_of, information_fields, bit, control_octet, FitsControl, IsNoControl, FitsKind, kind_octets}
 use Rattle.ax25_frames.proofs.EntryLemmas.{bit-below, bit_one, cut}
 
 -- bit 4 of a row's octet is 0

@@ -7,3 +7,4 @@ mod FrameCases
 mod FrameLemmas
 mod KindLemmas
 mod ReadLemmas
+mod Names

@@ -1,19 +1,6 @@
 -- What was read of the address field, entry by entry.
 use Rattle.std.proofs.Common.{◌≡◌, ℕ, suc, ◌+◌, ◌*◌, ◌/◌, ◌%◌, ◌≤◌, ◌<◌, ◌==◌, Bool, true, false, List, [], ◌∷◌, ◌++◌, length, map, take, drop, slice_index, leb, refl, sym, ap, ◌∙◌, subst, arith, append_assoc, length-append, length-take-le, take-append-drop, drop-cons, min, inl, inr}
-use Rattle.std.proofs.lemmas.Bool.{ne_eqb, eq-eqb, le-leb, lt-leb, cases_lt}
-use Rattle.std.proofs.lemmas.Grind.{common_steps}
-use Rattle.std.proofs.lemmas.List.{take_at, take_all, drop-drop}
-use Rattle.std.proofs.lemmas.List.Elements.{All-drop}
-use Rattle.px_base.specs.CallSign.{CallSign, IsCall}
-use Rattle.ax25_frames.specs.declared.control.Control.{Control}
-use Rattle.ax25_frames.specs.declared.frame.FrameFault.{FrameFault}
-use Rattle.ax25_frames.specs.declared.frame.FrameFault.TheVariants.{Short, BadControl}
-use Rattle.px_base.specs.Octets.{IsOctets}
-use Rattle.ax25_frames.specs.Kinds.{KindValue, bit, control_octet, fields_of, FitsControl, IsNoControl, FitsKind, kind_octets}
-use Rattle.ax25_frames.specs.FrameText.{FrameValue, FrameText}
-use Rattle.ax25_frames.specs.Faults.{FaultAt, IsRestFault}
-use Rattle.ax25_frames.specs.Addresses.{Entry, AreEntries, character_octets, ssid_octet, entry_octets, address_field, unended, BeginsUnended}
-use Rattle.ax25_frames.specs.Reading.{characters_begun, EntryAt, RepeatersAt, AddressesAt}
+use Rattle.ax25_frames.proofs.Names.{ne_eqb, eq-eqb, le-leb, lt-leb, cases_lt, common_steps, take_at, take_all, drop-drop, All-drop, CallSign, IsCall, Control, FrameFault, Short, BadControl, IsOctets, KindValue, bit, control_octet, fields_of, FitsControl, IsNoControl, FitsKind, kind_octets, FrameValue, FrameText, FaultAt, IsRestFault, Entry, AreEntries, character_octets, ssid_octet, entry_octets, address_field, unended, BeginsUnended, characters_begun, EntryAt, RepeatersAt, AddressesAt}
 use Rattle.ax25_frames.proofs.CharacterLemmas.{begun_is, begun_whole}
 use Rattle.ax25_frames.proofs.EntryLemmas.{length_entry, length_unended, length_field, unended_more, AreEntries_more, field_last}
 use Rattle.ax25_frames.proofs.FaultLemmas.{drop_past, short_control, bad_control, rest_fault}

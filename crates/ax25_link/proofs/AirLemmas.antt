@@ -1,14 +1,7 @@
 -- The numbers behind a station's transmissions, when a frame is sent and when one is delivered.
 use Rattle.std.proofs.Common.{◌≡◌, ℕ, ◌+◌, ◌%◌, ◌<◌, ◌≤◌, ◌⊎◌, List, [], ◌∷◌, ◌++◌, length, take, Some, false, refl, sym, ◌∙◌, ap, arith, inl, inr}
-use Rattle.std.specs.Prelude.{◌==◌, slice_get, IsTrue, if◌then◌else◌}
-use Rattle.std.proofs.lemmas.Bool.{cond-true, cond-false, eq-eqb, ne_eqb, cases_lt, cases_eq}
-use Rattle.ax25_frames.specs.declared.control.Control.{Control}
-use Rattle.ax25_frames.specs.declared.control.Control.TheVariants.{I}
-use Rattle.ax25_frames.specs.FrameText.{FrameValue}
-use Rattle.ax25_link.specs.Window.{Window}
-use Rattle.ax25_link.specs.Rows.{is_call}
-use Rattle.ax25_link.specs.Air.{Transmission, fresh, IsAt, control_of, is_information, is_numbered, delivering}
-use Rattle.ax25_link.specs.Linked.{send_number, ack_number, IsInformationAt, IsNumberedAt, PiecesFit, ShownFit, IsOpened}
+use Rattle.std.specs.Prelude.{◌==◌, if◌then◌else◌}
+use Rattle.ax25_link.proofs.Names.{slice_get, IsTrue, cond-true, cond-false, eq-eqb, ne_eqb, cases_lt, cases_eq, Control, I, FrameValue, Window, is_call, Transmission, fresh, IsAt, control_of, is_information, is_numbered, delivering, send_number, ack_number, IsInformationAt, IsNumberedAt, PiecesFit, ShownFit, IsOpened}
 use Rattle.ax25_link.proofs.Places.{at-append, later_count-append, NoneLater-append, was_at, later_count-deliver, NoneLater-deliver, NoneLater-overtaken, delivered_same, unchanged_at}
 
 -- an I frame has an N(R)

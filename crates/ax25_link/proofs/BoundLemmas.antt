@@ -1,27 +1,7 @@
 -- A run in which a frame that comes after m - k later ones shows a bad N(R).
 use Rattle.std.proofs.Common.{◌≡◌, ℕ, ◌+◌, ◌-◌, ◌%◌, ◌≤◌, List, [], ◌∷◌, ◌++◌, length, take, drop, Some, None, true, false, refl, sym, ◌∙◌, ap, subst, arith, inl, inr, zero, suc, length-append}
-use Rattle.std.specs.Prelude.{IsTrue, slice_get, ◌==◌, nat_lt, ◌&&◌, not}
-use Rattle.std.specs.List.{concat}
-use Rattle.std.proofs.lemmas.Bool.{cond-true, cond-false, and_right, and_left, and_from, lt-ltb, eq-eqb, cases_lt}
-use Rattle.std.proofs.lemmas.Option.{slice_get_within}
-use Rattle.px_base.specs.CallSign.{CallSign}
-use Rattle.ax25_frames.specs.declared.control.Control.{Control}
-use Rattle.ax25_frames.specs.declared.control.Control.TheVariants.{I, Rr}
-use Rattle.ax25_frames.specs.FrameText.{FrameValue}
-use Rattle.ax25_link.specs.declared.state.LinkState.{LinkState}
-use Rattle.ax25_link.specs.declared.state.LinkState.TheVariants.{Up}
-use Rattle.ax25_link.specs.Window.{Window, IsWindow}
-use Rattle.ax25_link.specs.Ends.{LinkEnd, IsEnd, high, outstanding, taken_count, held, most_held, free_octets, ready, accept}
-use Rattle.ax25_link.specs.Acknowledging.{Meaning, good, meaning_of, meaning_at, applying, is_bad}
-use Rattle.ax25_link.specs.Frames.{receive_number, frame_of_reply}
-use Rattle.ax25_link.specs.Rows.{Outcome, accepting, information_row, supervisory_row, with_busy, refusing, replying, up_row, row_of_state, after_frame}
-use Rattle.ax25_link.specs.Timer.{is_up}
-use Rattle.ax25_link.specs.Calls.{push, after_push}
-use Rattle.ax25_link.specs.Sending.{IsQuiet, next_sending, sending_after, last_sending, has_new, is_empty, next_piece, sends_reply, sends_again, sends_new, after_new}
-use Rattle.ax25_link.specs.Air.{Transmission, fresh, IsAt, IsLawful, later_count, control_of, is_numbered, delivering}
-use Rattle.ax25_link.specs.Linked.{Station, AreLinked, ack_number, owed}
-use Rattle.ax25_link.specs.Acts.{hear, does, send, acting, facing}
-use Rattle.ax25_link.specs.Runs.{Runs, stays, acts, turns, calling_station, answering_station, BoundLaw}
+use Rattle.std.specs.Prelude.{◌==◌, ◌&&◌}
+use Rattle.ax25_link.proofs.Names.{IsTrue, slice_get, nat_lt, not, concat, cond-true, cond-false, and_right, and_left, and_from, lt-ltb, eq-eqb, cases_lt, slice_get_within, CallSign, Control, I, Rr, FrameValue, LinkState, Up, Window, IsWindow, LinkEnd, IsEnd, high, outstanding, taken_count, held, most_held, free_octets, ready, accept, Meaning, good, meaning_of, meaning_at, applying, is_bad, receive_number, frame_of_reply, Outcome, accepting, information_row, supervisory_row, with_busy, refusing, replying, up_row, row_of_state, after_frame, is_up, push, after_push, IsQuiet, next_sending, sending_after, last_sending, has_new, is_empty, next_piece, sends_reply, sends_again, sends_new, after_new, Transmission, fresh, IsAt, IsLawful, later_count, control_of, is_numbered, delivering, Station, AreLinked, ack_number, owed, hear, does, send, acting, facing, Runs, stays, acts, turns, calling_station, answering_station, BoundLaw}
 use Rattle.ax25_link.proofs.Places.{slice_get-append_before, slice_get-append_at, slice_get-set_other, slice_get-set_same, length-slice_set}
 use Rattle.ax25_link.proofs.EndLemmas.{meaning-Applied, acknowledging-keeps, acknowledging-acked}
 use Rattle.ax25_link.proofs.MeaningLemmas.{distance_below, meaning_at-bad}

@@ -1,17 +1,6 @@
 -- Two linked stations stay linked when a transmission of one is delivered to the other.
 use Rattle.std.proofs.Common.{◌≡◌, ℕ, ◌+◌, ◌-◌, ◌%◌, ◌<◌, ◌≤◌, ◌⊎◌, List, [], ◌∷◌, ◌++◌, take, Some, false, sym, ◌∙◌, ap, subst, arith, inl, inr, length-append}
-use Rattle.std.specs.Prelude.{IsTrue, slice_get, zero, suc}
-use Rattle.std.specs.List.{concat}
-use Rattle.std.proofs.lemmas.Bool.{cases_Bool, true≢false}
-use Rattle.std.proofs.lemmas.Option.{same_Some}
-use Rattle.ax25_frames.specs.declared.control.Control.{Control}
-use Rattle.ax25_link.specs.Window.{Window, IsWindow}
-use Rattle.ax25_link.specs.Ends.{LinkEnd, high, taken_count}
-use Rattle.ax25_link.specs.Acknowledging.{good, stale, meaning_of}
-use Rattle.ax25_link.specs.Rows.{after_frame, is_call}
-use Rattle.ax25_link.specs.Sending.{IsQuiet}
-use Rattle.ax25_link.specs.Air.{Transmission, IsLawful, later_count, control_of, is_information, is_numbered, delivering}
-use Rattle.ax25_link.specs.Linked.{Station, AreLinked, PiecesFit, IsUnpushed, send_number, ack_number, owed}
+use Rattle.ax25_link.proofs.Names.{IsTrue, slice_get, zero, suc, concat, cases_Bool, true≢false, same_Some, Control, Window, IsWindow, LinkEnd, high, taken_count, good, stale, meaning_of, after_frame, is_call, IsQuiet, Transmission, IsLawful, later_count, control_of, is_information, is_numbered, delivering, Station, AreLinked, PiecesFit, IsUnpushed, send_number, ack_number, owed}
 use Rattle.ax25_link.proofs.Modulus.{same_number}
 use Rattle.ax25_link.proofs.MeaningLemmas.{meaning_shown}
 use Rattle.ax25_link.proofs.AirLemmas.{information_numbered, ShownFit-grows, PiecesFit-deliver, ShownFit-deliver, IsOpened-deliver}

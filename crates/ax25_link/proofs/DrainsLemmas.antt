@@ -1,11 +1,6 @@
 -- Each end comes to send nothing, by one list of frames.
 use Rattle.std.proofs.Common.{◌≡◌, ℕ, ◌≤◌, ◌⊎◌, List, [], ◌∷◌, Option, Some, None, refl, sym, ◌∙◌, ap, subst, arith, inl, inr, zero, suc}
-use Rattle.std.proofs.lemmas.Option.{same_Some}
-use Rattle.ax25_frames.specs.FrameText.{FrameValue}
-use Rattle.ax25_link.specs.Window.{Window}
-use Rattle.ax25_link.specs.Ends.{LinkEnd, IsEnd}
-use Rattle.ax25_link.specs.Sending.{Sending, next_sending, Drains}
-use Rattle.ax25_link.specs.Laws.{DrainsLaw}
+use Rattle.ax25_link.proofs.Names.{same_Some, FrameValue, Window, LinkEnd, IsEnd, Sending, next_sending, Drains, DrainsLaw}
 use Rattle.ax25_link.proofs.SendLemmas.{left_to_send, next_sending-Sends}
 
 -- all frames that an end sends, and the end then

@@ -1,19 +1,7 @@
 -- Each step keeps what holds of each end.
 use Rattle.std.proofs.Common.{◌≡◌, ℕ, ◌≤◌, List, length, Option, Some, Bool, true, false, refl, ap, arith}
 use Rattle.std.specs.Prelude.{◌==◌}
-use Rattle.std.proofs.lemmas.Bool.{cond_both, eqb-false}
-use Rattle.px_base.specs.CallSign.{CallSign}
-use Rattle.ax25_frames.specs.declared.control.Control.{Control}
-use Rattle.ax25_frames.specs.declared.control.Control.TheVariants.{Sabm}
-use Rattle.ax25_frames.specs.FrameText.{FrameValue}
-use Rattle.ax25_link.specs.declared.state.LinkState.{LinkState}
-use Rattle.ax25_link.specs.declared.state.LinkState.TheVariants.{Calling, Up, Ending, Down}
-use Rattle.ax25_link.specs.Window.{Window}
-use Rattle.ax25_link.specs.Ends.{LinkEnd, Reply, IsEnd, high, outstanding, accept, call, enquire, oldest, begun, calling_end, answering_end}
-use Rattle.ax25_link.specs.Rows.{Outcome, row_of_state, up_row, after_frame, entering}
-use Rattle.ax25_link.specs.Timer.{is_down, runs_out, is_spent, asking, timer_reply, trying, after_tick}
-use Rattle.ax25_link.specs.Calls.{after_push, after_hang_up, after_abandon, Doing, push, hang_up, abandon, after_doing}
-use Rattle.ax25_link.specs.Sending.{IsQuiet}
+use Rattle.ax25_link.proofs.Names.{cond_both, eqb-false, CallSign, Control, Sabm, FrameValue, LinkState, Calling, Up, Ending, Down, Window, LinkEnd, Reply, IsEnd, high, outstanding, accept, call, enquire, oldest, begun, calling_end, answering_end, Outcome, row_of_state, up_row, after_frame, entering, is_down, runs_out, is_spent, asking, timer_reply, trying, after_tick, after_push, after_hang_up, after_abandon, Doing, push, hang_up, abandon, after_doing, IsQuiet}
 use Rattle.ax25_link.proofs.EndLemmas.{Quiet, quiet, unless_oldest-no}
 use Rattle.ax25_link.proofs.HeardLemmas.{Hears, Hears_up, Hears_calling, Hears_ending, Hears_down}
 

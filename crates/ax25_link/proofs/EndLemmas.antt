@@ -1,13 +1,7 @@
 -- What each step of an end keeps.
 use Rattle.std.proofs.Common.{◌≡◌, ℕ, ◌-◌, ◌≤◌, ◌⊎◌, Option, Some, None, refl, sym, ap, arith, inl, inr}
-use Rattle.std.specs.Prelude.{◌==◌, nat_le, nat_lt, ◌||◌, ⊤}
-use Rattle.std.proofs.lemmas.Bool.Decides.{nat_tests}
-use Rattle.std.proofs.lemmas.Bool.{cond_both, leb-true}
-use Rattle.ax25_link.specs.Window.{Window}
-use Rattle.ax25_link.specs.Ends.{LinkEnd, Reply, IsEnd, high, oldest}
-use Rattle.ax25_link.specs.Acknowledging.{Meaning, good, stale, bad, meaning_at, meaning_of, distance, acknowledging, applying}
-use Rattle.ax25_link.specs.Rows.{unless_oldest}
-use Rattle.ax25_link.specs.Sending.{IsQuiet, sending_after, later_sending}
+use Rattle.std.specs.Prelude.{◌==◌, ◌||◌}
+use Rattle.ax25_link.proofs.Names.{nat_le, nat_lt, ⊤, nat_tests, cond_both, leb-true, Window, LinkEnd, Reply, IsEnd, high, oldest, Meaning, good, stale, bad, meaning_at, meaning_of, distance, acknowledging, applying, unless_oldest, IsQuiet, sending_after, later_sending}
 
 -- what an end that has nothing to send has
 pub record Quiet (end : LinkEnd) : Type 0 where

@@ -1,17 +1,7 @@
 -- The I frames that a link sends are those of the ends that it stands for.
 use Rattle.std.proofs.Common.{◌≡◌, ℕ, zero, suc, ◌+◌, ◌-◌, ◌%◌, ◌≤◌, ◌==◌, Bool, true, false, if◌then◌else◌, List, [], ◌∷◌, ◌++◌, length, drop, refl, ap, sym, ◌∙◌, subst, append_assoc, length-drop, zero-add, suc-add, arith}
-use Rattle.std.specs.Prelude.{Option, slice_get, unwrap_or}
-use Rattle.std.proofs.lemmas.List.{get_or_push}
-use Rattle.std.proofs.lemmas.Option.{unwrap_or-slice_get}
 use Rattle.ax25_frames.specs.declared.control.Control.TheVariants as control
-use Rattle.px_base.specs.Octets.{IsOctets}
-use Rattle.ax25_frames.specs.FrameText.{FrameValue, FrameText, FreeBits, canonical, frame_octets}
-use Rattle.ax25_link.specs.Window.{Window}
-use Rattle.ax25_link.specs.Ends.{LinkEnd, high, outstanding}
-use Rattle.ax25_link.specs.Frames.{information_of, information_again, no_protocol, piece_at}
-use Rattle.ax25_link.specs.Acknowledging.{with_timer_anew}
-use Rattle.ax25_link.specs.Kept.{Kept, StandsFor, frame_between}
-use Rattle.ax25_link.specs.Sending.{after_new, next_piece, with_piece}
+use Rattle.ax25_link.proofs.Names.{Option, slice_get, unwrap_or, get_or_push, unwrap_or-slice_get, IsOctets, FrameValue, FrameText, FreeBits, canonical, frame_octets, Window, LinkEnd, high, outstanding, information_of, information_again, no_protocol, piece_at, with_timer_anew, Kept, StandsFor, frame_between, after_new, next_piece, with_piece}
 
 -- an I frame with this information
 abbrev pub numbered : Kept → ℕ → ℕ → List ℕ → Bool → FrameValue

@@ -1,19 +1,7 @@
 -- What a frame does to an end that has nothing to send, row by row.
 use Rattle.std.proofs.Common.{◌≡◌, ℕ, ◌-◌, ◌%◌, ◌≤◌, ◌⊎◌, List, [], ◌∷◌, ◌++◌, length, Option, Some, None, Bool, true, false, refl, sym, ◌∙◌, ap, subst, arith, inl, inr}
-use Rattle.std.specs.Prelude.{◌==◌, ◌||◌, ◌&&◌, IsTrue, if◌then◌else◌}
-use Rattle.std.proofs.lemmas.Bool.{cond_both, eqb-true}
-use Rattle.ax25_frames.specs.declared.control.Control.{Control}
-use Rattle.ax25_frames.specs.declared.control.Control.TheVariants.{I, Rr, Rnr, Rej, Sabm, Disc, Dm, Ua, Frmr}
-use Rattle.ax25_frames.specs.FrameText.{FrameValue}
-use Rattle.ax25_link.specs.declared.state.LinkState.{LinkState}
-use Rattle.ax25_link.specs.declared.state.LinkState.TheVariants.{Calling, Up, Ending, Down}
-use Rattle.ax25_link.specs.Window.{Window}
-use Rattle.ax25_link.specs.Ends.{LinkEnd, Reply, IsEnd, high, outstanding, taken_count, ready, reject, accept, refuse, refuse_frame, oldest}
-use Rattle.ax25_link.specs.Acknowledging.{good, meaning_of, applying, is_good, is_bad, distance}
-use Rattle.ax25_link.specs.Frames.{receive_number, refusal_octets}
-use Rattle.ax25_link.specs.Rows.{Outcome, unless_oldest, replying, entering, information_row, supervisory_row, with_busy, sending_again, numbered_row, up_row, calling_row, ending_row, down_row, row_of_state, is_call, after_frame}
-use Rattle.ax25_link.specs.Linked.{send_number, ack_number, owed}
-use Rattle.ax25_link.specs.Air.{is_information, is_numbered}
+use Rattle.std.specs.Prelude.{◌==◌, ◌||◌, ◌&&◌, if◌then◌else◌}
+use Rattle.ax25_link.proofs.Names.{IsTrue, cond_both, eqb-true, Control, I, Rr, Rnr, Rej, Sabm, Disc, Dm, Ua, Frmr, FrameValue, LinkState, Calling, Up, Ending, Down, Window, LinkEnd, Reply, IsEnd, high, outstanding, taken_count, ready, reject, accept, refuse, refuse_frame, oldest, good, meaning_of, applying, is_good, is_bad, distance, receive_number, refusal_octets, Outcome, unless_oldest, replying, entering, information_row, supervisory_row, with_busy, sending_again, numbered_row, up_row, calling_row, ending_row, down_row, row_of_state, is_call, after_frame, send_number, ack_number, owed, is_information, is_numbered}
 use Rattle.ax25_link.proofs.EndLemmas.{Quiet, Applied, meaning-Fits, meaning-Applied, applying-acked, unless_oldest-no}
 
 -- the frame is an I frame that is next: its information is accepted, and it is replied to

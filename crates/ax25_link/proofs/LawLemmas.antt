@@ -1,23 +1,8 @@
 -- The parts of the prefix law.
 use Rattle.std.proofs.Common.{◌≡◌, ℕ, List, [], ◌∷◌, ◌++◌, length, take, map, false, refl, sym, ◌∙◌, ap, subst, arith, inl, inr, append_assoc, append-nil, take-append-drop}
-use Rattle.std.specs.Prelude.{drop}
-use Rattle.std.specs.List.{concat}
-use Rattle.std.proofs.lemmas.Bool.{true≢false}
 use Rattle.std.proofs.lemmas.List.Folds.{concat-append}
-use Rattle.ax25_frames.specs.FrameText.{FrameValue}
-use Rattle.ax25_link.specs.declared.state.LinkState.TheVariants.{Calling, Up, Down}
-use Rattle.ax25_link.specs.Window.{Window}
-use Rattle.ax25_link.specs.Ends.{LinkEnd, taken_count}
-use Rattle.ax25_link.specs.Acknowledging.{is_bad}
-use Rattle.ax25_link.specs.Rows.{is_call}
-use Rattle.ax25_link.specs.Calls.{Doing, after_doing, DoesAll}
-use Rattle.ax25_link.specs.Sending.{Drains}
-use Rattle.ax25_link.specs.Air.{Transmission, fresh, control_of, is_numbered}
-use Rattle.ax25_link.specs.Linked.{Station, AreLinked, PiecesFit, ShownFit, IsInformationAt, IsNumberedAt, owed}
-use Rattle.ax25_link.specs.LinkStep.{frame}
-use Rattle.ax25_link.specs.LinkStep.{tick as ticks}
-use Rattle.ax25_link.specs.Acts.{hear, tick, does, send, acting, facing}
-use Rattle.ax25_link.specs.Laws.{IsOpening, OpeningLaw, KeptLaw, SentLaw, HeardLaw, TickedLaw, TurnedLaw, FrontLaw, NoBadLaw, PrefixLaw, HasNoCall, having_sent, DeliveredLaw, AnsweredLaw, DownLaw}
+use Rattle.ax25_link.specs.Acts.{tick}
+use Rattle.ax25_link.proofs.Names.{drop, concat, true≢false, FrameValue, Calling, Up, Down, Window, LinkEnd, taken_count, is_bad, is_call, Doing, after_doing, DoesAll, Drains, Transmission, fresh, control_of, is_numbered, Station, AreLinked, PiecesFit, ShownFit, IsInformationAt, IsNumberedAt, owed, frame, tick as ticks, hear, does, send, acting, facing, IsOpening, OpeningLaw, KeptLaw, SentLaw, HeardLaw, TickedLaw, TurnedLaw, FrontLaw, NoBadLaw, PrefixLaw, HasNoCall, having_sent, DeliveredLaw, AnsweredLaw, DownLaw}
 use Rattle.ax25_link.proofs.AirLemmas.{information_numbered, updated, PiecesFit-deliver, ShownFit-deliver, IsOpened-deliver, PiecesFit-send, ShownFit-send, IsOpened-send}
 use Rattle.ax25_link.proofs.EndKept.{answering_end-IsEnd}
 use Rattle.ax25_link.proofs.SendLemmas.{same_pieces}

@@ -19,3 +19,4 @@ mod RunLemmas
 mod SendLemmas
 mod StandLemmas
 mod StationLemmas
+mod Names

@@ -1,17 +1,6 @@
 -- Two linked stations stay linked, step by step.
 use Rattle.std.proofs.Common.{◌≡◌, ℕ, ◌≤◌, List, [], ◌∷◌, ◌++◌, length, take, Option, Some, false, refl, sym, ◌∙◌, ap, subst, arith, append_assoc}
-use Rattle.std.specs.List.{concat}
-use Rattle.std.proofs.lemmas.Bool.{cond_both}
-use Rattle.ax25_link.specs.declared.state.LinkState.{LinkState}
-use Rattle.ax25_link.specs.declared.state.LinkState.TheVariants.{Calling, Up, Ending, Down}
-use Rattle.ax25_link.specs.Window.{Window}
-use Rattle.ax25_link.specs.Ends.{LinkEnd, Reply, Farewell, IsEnd, goodbye, gone, taken_count, free_octets, oldest}
-use Rattle.ax25_link.specs.Rows.{is_call, unless_oldest, entering}
-use Rattle.ax25_link.specs.Timer.{is_down, runs_out, is_spent, after_tick}
-use Rattle.ax25_link.specs.Calls.{Doing, push, hang_up, abandon, after_doing}
-use Rattle.ax25_link.specs.Sending.{Sending, IsQuiet, next_sending}
-use Rattle.ax25_link.specs.Air.{Transmission, fresh}
-use Rattle.ax25_link.specs.Linked.{Station, AreLinked, NumbersFit, PiecesFit, ShownFit, IsUnpushed, owed, owed_for}
+use Rattle.ax25_link.proofs.Names.{concat, cond_both, LinkState, Calling, Up, Ending, Down, Window, LinkEnd, Reply, Farewell, IsEnd, goodbye, gone, taken_count, free_octets, oldest, is_call, unless_oldest, entering, is_down, runs_out, is_spent, after_tick, Doing, push, hang_up, abandon, after_doing, Sending, IsQuiet, next_sending, Transmission, fresh, Station, AreLinked, NumbersFit, PiecesFit, ShownFit, IsUnpushed, owed, owed_for}
 use Rattle.ax25_link.proofs.AirLemmas.{ShownFit-grows, updated, PiecesFit-send, ShownFit-send, IsOpened-send}
 use Rattle.ax25_link.proofs.EndLemmas.{quiet}
 use Rattle.ax25_link.proofs.EndKept.{after_tick-IsEnd, after_doing-IsEnd, entering-IsEnd}

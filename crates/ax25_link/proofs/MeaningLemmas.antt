@@ -1,10 +1,6 @@
 -- What N(R) means where the number behind it is known.
 use Rattle.std.proofs.Common.{◌≡◌, ℕ, ◌+◌, ◌-◌, ◌%◌, ◌<◌, ◌≤◌, ◌⊎◌, sym, ◌∙◌, ap, arith, inl, inr}
-use Rattle.std.specs.Prelude.{nat_le, nat_lt}
-use Rattle.std.proofs.lemmas.Bool.{cond-true, cond-false, le-leb, lt-leb, lt-ltb, le-ltb, cases_lt}
-use Rattle.ax25_link.specs.Window.{Window, IsWindow}
-use Rattle.ax25_link.specs.Ends.{LinkEnd, IsEnd, high}
-use Rattle.ax25_link.specs.Acknowledging.{good, stale, bad, distance, meaning_at, meaning_of}
+use Rattle.ax25_link.proofs.Names.{nat_le, nat_lt, cond-true, cond-false, le-leb, lt-leb, lt-ltb, le-ltb, cases_lt, Window, IsWindow, LinkEnd, IsEnd, high, good, stale, bad, distance, meaning_at, meaning_of}
 use Rattle.ax25_link.proofs.Modulus.{distance_up, distance_down}
 
 -- a distance up to the number of outstanding frames is good

@@ -1,7 +1,6 @@
 -- Numbers that are counted modulo m.
 use Rattle.std.proofs.Common.{◌≡◌, ℕ, ◌+◌, ◌-◌, ◌*◌, ◌/◌, ◌%◌, ◌<◌, sym, ◌∙◌, ap, arith, inl, inr}
-use Rattle.std.proofs.lemmas.Nat.{mod-mul-add, div-add-mod', mod_below}
-use Rattle.std.proofs.lemmas.Bool.{cases_lt}
+use Rattle.ax25_link.proofs.Names.{mod-mul-add, div-add-mod', mod_below, cases_lt}
 
 -- the remainder of a number that lies less than m above a multiple of m
 pub mod_of : (a m q r : ℕ) → a ≡ q * m + r → r < m → a % m ≡ r

@@ -1,23 +1,7 @@
 -- Only an end that is calling sends a SABM, when its timer runs out.
 use Rattle.std.proofs.Common.{◌≡◌, ℕ, List, [], ◌∷◌, Option, Some, None, Bool, true, false, refl, sym, ◌∙◌, ap, subst, arith}
 use Rattle.std.specs.Prelude.{◌==◌, if◌then◌else◌}
-use Rattle.std.proofs.lemmas.Bool.{cond_both}
-use Rattle.std.proofs.lemmas.Bool.Decides.{nat_tests}
-use Rattle.ax25_frames.specs.declared.control.Control.{Control}
-use Rattle.ax25_frames.specs.declared.control.Control.TheVariants.{I, Rr, Rnr, Rej, Sabm, Disc, Dm, Ua, Frmr}
-use Rattle.ax25_frames.specs.FrameText.{FrameValue}
-use Rattle.ax25_link.specs.declared.state.LinkState.{LinkState}
-use Rattle.ax25_link.specs.declared.state.LinkState.TheVariants.{Calling, Up, Ending, Down}
-use Rattle.ax25_link.specs.Window.{Window}
-use Rattle.ax25_link.specs.Ends.{LinkEnd, Reply, Farewell, outstanding, ready, reject, accept, refuse, call, oldest, goodbye, gone}
-use Rattle.ax25_link.specs.Acknowledging.{Meaning, good, stale, bad, meaning_of, applying, is_good, is_bad}
-use Rattle.ax25_link.specs.Frames.{frame_of_reply}
-use Rattle.ax25_link.specs.Rows.{Outcome, unless_oldest, information_row, supervisory_row, with_busy, sending_again, numbered_row, up_row, calling_row, ending_row, down_row, row_of_state, is_call}
-use Rattle.ax25_link.specs.Timer.{asking, timer_reply, after_tick}
-use Rattle.ax25_link.specs.Calls.{Doing, push, hang_up, abandon, after_doing, DoesAll}
-use Rattle.ax25_link.specs.Sending.{Sending, next_sending, sends_farewell, sends_new, Drains}
-use Rattle.ax25_link.specs.LinkStep.{Coming, frame, tick, after_coming}
-use Rattle.ax25_link.specs.Laws.{HasNoCall, NoCallLaw}
+use Rattle.ax25_link.proofs.Names.{cond_both, nat_tests, Control, I, Rr, Rnr, Rej, Sabm, Disc, Dm, Ua, Frmr, FrameValue, LinkState, Calling, Up, Ending, Down, Window, LinkEnd, Reply, Farewell, outstanding, ready, reject, accept, refuse, call, oldest, goodbye, gone, Meaning, good, stale, bad, meaning_of, applying, is_good, is_bad, frame_of_reply, Outcome, unless_oldest, information_row, supervisory_row, with_busy, sending_again, numbered_row, up_row, calling_row, ending_row, down_row, row_of_state, is_call, asking, timer_reply, after_tick, Doing, push, hang_up, abandon, after_doing, DoesAll, Sending, next_sending, sends_farewell, sends_new, Drains, Coming, frame, tick, after_coming, HasNoCall, NoCallLaw}
 use Rattle.ax25_link.proofs.EndLemmas.{quiet, acknowledging-keeps}
 use Rattle.ax25_link.proofs.SendLemmas.{sending_cases}
 

@@ -1,11 +1,6 @@
 -- Each N(R) has one meaning.
 use Rattle.std.proofs.Common.{◌≡◌, ℕ, ◌+◌, ◌-◌, ◌%◌, ◌<◌, ◌≤◌, refl, sym, ◌∙◌, ap, subst, arith, inl, inr}
-use Rattle.std.proofs.lemmas.Bool.{cases_lt}
-use Rattle.std.proofs.lemmas.Nat.{mod_below}
-use Rattle.ax25_link.specs.Window.{Window, IsWindow}
-use Rattle.ax25_link.specs.Ends.{LinkEnd, IsEnd, high}
-use Rattle.ax25_link.specs.Acknowledging.{Meaning, good, stale, bad, StandsForNumber, Means, HasMeaning, distance, meaning_of}
-use Rattle.ax25_link.specs.Laws.{OneMeaningLaw}
+use Rattle.ax25_link.proofs.Names.{cases_lt, mod_below, Window, IsWindow, LinkEnd, IsEnd, high, Meaning, good, stale, bad, StandsForNumber, Means, HasMeaning, distance, meaning_of, OneMeaningLaw}
 use Rattle.ax25_link.proofs.Modulus.{mod_raised, distance_back, same_number}
 use Rattle.ax25_link.proofs.MeaningLemmas.{meaning_at-good, meaning_at-stale, meaning_at-bad}
 

@@ -1,10 +1,6 @@
 -- Places of a station's transmissions, after a frame is sent and after one is delivered.
 use Rattle.std.proofs.Common.{◌≡◌, ℕ, ◌+◌, ◌-◌, ◌<◌, ◌⊎◌, List, [], ◌∷◌, ◌++◌, length, Some, true, refl, sym, ◌∙◌, ap, subst, arith, inl, inr, zero, suc, length-append}
-use Rattle.std.specs.Prelude.{slice_get, slice_set, IsTrue}
-use Rattle.std.proofs.lemmas.Option.{slice_get_within, same_Some}
-use Rattle.std.proofs.lemmas.Bool.{cases_eq, cases_lt, true≢false}
-use Rattle.ax25_frames.specs.FrameText.{FrameValue}
-use Rattle.ax25_link.specs.Air.{Transmission, fresh, IsAt, NoneLater, later_count, is_numbered, control_of, delivering}
+use Rattle.ax25_link.proofs.Names.{slice_get, slice_set, IsTrue, slice_get_within, same_Some, cases_eq, cases_lt, true≢false, FrameValue, Transmission, fresh, IsAt, NoneLater, later_count, is_numbered, control_of, delivering}
 
 -- an element of a list with one more at its end
 pub slice_get-append_before : {A : Type 0} (xs ys : List A) (i : ℕ) → i < length xs → slice_get (xs ++ ys) i ≡ slice_get xs i

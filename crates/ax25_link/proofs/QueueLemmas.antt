@@ -1,13 +1,7 @@
 -- Octets cut into pieces.
 use Rattle.std.proofs.Common.{◌≡◌, ℕ, zero, suc, ◌+◌, ◌-◌, ◌<◌, ◌≤◌, min, List, [], ◌∷◌, ◌++◌, length, take, drop, get_or, refl, ap, sym, ◌∙◌, subst, append_assoc, append-nil, ⊎_elim, length-drop, arith}
-use Rattle.std.specs.Prelude.{slice_get, unwrap_or, sum, All}
-use Rattle.std.specs.List.{concat}
-use Rattle.std.proofs.lemmas.List.{take-append-drop, take-append-le, drop-append-le, drop-drop, drop_all, take_all, take_min, drop_min, length-take-le}
 use Rattle.std.proofs.Math.Seq.{take-append-add, drop-append-add}
-use Rattle.std.proofs.lemmas.Bool.{cases_lt}
-use Rattle.std.proofs.lemmas.List.Sums.{sum_by-cons, sum_by-le, sum_by_push, sum_by-take-drop, sum_by-take-le}
-use Rattle.std.proofs.lemmas.List.Elements.{All-drop}
-use Rattle.ax25_link.specs.Queue.{AreSizes, cut, queue_of, octets_of}
+use Rattle.ax25_link.proofs.Names.{slice_get, unwrap_or, sum, All, concat, take-append-drop, take-append-le, drop-append-le, drop-drop, drop_all, take_all, take_min, drop_min, length-take-le, cases_lt, sum_by-cons, sum_by-le, sum_by_push, sum_by-take-drop, sum_by-take-le, All-drop, AreSizes, cut, queue_of, octets_of}
 
 pub sum-cons : (size : ℕ) (sizes : List ℕ) → sum (size ∷ sizes) ≡ size + sum sizes
 sum-cons size sizes = sum_by-cons (λ x. x) size sizes

@@ -1,12 +1,6 @@
 -- Runs of two stations.
 use Rattle.std.proofs.Common.{◌≡◌, ℕ, ◌≤◌, List, [], length, true, false, refl, sym, ap, arith, zero, suc}
-use Rattle.std.proofs.lemmas.Option.{same_Some, slice_get_within}
-use Rattle.px_base.specs.CallSign.{CallSign}
-use Rattle.ax25_link.specs.Window.{Window, IsWindow}
-use Rattle.ax25_link.specs.Air.{Transmission, IsAt, control_of, is_numbered}
-use Rattle.ax25_link.specs.Linked.{Station, AreLinked, IsOpened}
-use Rattle.ax25_link.specs.Acts.{acting, facing}
-use Rattle.ax25_link.specs.Runs.{Runs, stays, acts, turns, calling_station, answering_station, RunLaw, WholeRunLaw}
+use Rattle.ax25_link.proofs.Names.{same_Some, slice_get_within, CallSign, Window, IsWindow, Transmission, IsAt, control_of, is_numbered, Station, AreLinked, IsOpened, acting, facing, Runs, stays, acts, turns, calling_station, answering_station, RunLaw, WholeRunLaw}
 use Rattle.ax25_link.proofs.LawLemmas.{prefix_law}
 
 run : (w : Window) (one other last_one last_other : Station) → IsWindow w → AreLinked w one other → Runs w one other last_one last_other

@@ -1,20 +1,7 @@
 -- What an end sends, and what that leaves.
 use Rattle.std.proofs.Common.{◌≡◌, ℕ, ◌+◌, ◌-◌, ◌%◌, ◌<◌, ◌≤◌, List, [], ◌∷◌, ◌++◌, length, drop, Option, Some, None, true, refl, sym, ◌∙◌, ap, subst, arith, length-append, append_assoc, append-nil, take-append-drop, length-drop}
-use Rattle.std.specs.Prelude.{◌==◌, nat_lt, ◌&&◌, not, IsTrue, slice_get, unwrap_or, zero, suc}
-use Rattle.std.specs.List.{concat}
-use Rattle.std.proofs.lemmas.Bool.{cond_both, ltb-true, eqb-false, not-true, and_parts}
-use Rattle.std.proofs.lemmas.List.{take-append-le}
-use Rattle.std.proofs.lemmas.Option.{same_Some, slice_get_within}
-use Rattle.ax25_frames.specs.FrameText.{FrameValue}
-use Rattle.ax25_link.specs.declared.state.LinkState.{LinkState}
-use Rattle.ax25_link.specs.declared.state.LinkState.TheVariants.{Calling, Up}
-use Rattle.ax25_link.specs.Window.{Window}
-use Rattle.ax25_link.specs.Ends.{LinkEnd, Reply, Farewell, IsEnd, high, outstanding, taken_count, ready, reject, enquire, oldest, goodbye, gone}
-use Rattle.ax25_link.specs.Frames.{frame_of_reply, frame_of_farewell}
-use Rattle.ax25_link.specs.Timer.{is_up}
-use Rattle.ax25_link.specs.Sending.{Sending, next_sending, sending_after, later_sending, last_sending, has_new, is_empty, next_piece, most_information, sends_reply, sends_again, sends_new, sends_farewell, after_new}
-use Rattle.ax25_link.specs.Air.{is_information, is_numbered}
-use Rattle.ax25_link.specs.Linked.{send_number, ack_number, owed, owed_for, IsUnpushed}
+use Rattle.std.specs.Prelude.{◌==◌, ◌&&◌}
+use Rattle.ax25_link.proofs.Names.{nat_lt, not, IsTrue, slice_get, unwrap_or, zero, suc, concat, cond_both, ltb-true, eqb-false, not-true, and_parts, take-append-le, same_Some, slice_get_within, FrameValue, LinkState, Calling, Up, Window, LinkEnd, Reply, Farewell, IsEnd, high, outstanding, taken_count, ready, reject, enquire, oldest, goodbye, gone, frame_of_reply, frame_of_farewell, is_up, Sending, next_sending, sending_after, later_sending, last_sending, has_new, is_empty, next_piece, most_information, sends_reply, sends_again, sends_new, sends_farewell, after_new, is_information, is_numbered, send_number, ack_number, owed, owed_for, IsUnpushed}
 use Rattle.ax25_link.proofs.AirLemmas.{MorePieces}
 use Rattle.ax25_link.proofs.Places.{slice_get-append_before, slice_get-append_at}
 

@@ -1,7 +1,6 @@
 -- What holds of each end that a link stands for.
 use Rattle.std.proofs.Common.{◌≡◌, ◌-◌, length, ap, ◌∙◌, length-drop, arith}
-use Rattle.ax25_link.specs.Ends.{high}
-use Rattle.ax25_link.specs.Kept.{Kept, IsKept, Fits}
+use Rattle.ax25_link.proofs.Names.{high, Kept, IsKept, Fits}
 
 pub fits : (link : Kept) → IsKept link → Fits link
 fits link kept w end s =

@@ -1,25 +1,8 @@
 -- An end stays of its two stations, and its frames are of them.
 use Rattle.std.proofs.Common.{◌≡◌, ℕ, ◌%◌, ◌<◌, List, [], ◌∷◌, Bool, true, false, cond, refl, sym, ◌∙◌, ap, subst, arith}
-use Rattle.std.specs.Prelude.{◌+◌, ◌==◌, ◌&&◌, ◌||◌, if◌then◌else◌, Some}
-use Rattle.std.specs.List.{AllByRecursion}
-use Rattle.std.proofs.lemmas.Bool.{cond_both}
-use Rattle.std.proofs.lemmas.Bool.Decides.{nat_tests}
-use Rattle.px_base.specs.CallSign.{CallSign}
-use Rattle.ax25_frames.specs.declared.control.Control.{Control}
-use Rattle.ax25_frames.specs.declared.control.Control.TheVariants.{I, Rr, Rnr, Rej, Sabm, Ua}
-use Rattle.ax25_frames.specs.FrameText.{FrameValue}
-use Rattle.ax25_link.specs.declared.state.LinkState.{LinkState}
-use Rattle.ax25_link.specs.declared.state.LinkState.TheVariants.{Calling, Up, Ending, Down}
-use Rattle.ax25_link.specs.Window.{Window, IsWindow}
-use Rattle.ax25_link.specs.Ends.{LinkEnd, Reply, Farewell, high, outstanding, taken_count, ready, reject, refuse, enquire, oldest, goodbye, gone}
-use Rattle.ax25_link.specs.Acknowledging.{Meaning, good, stale, bad, meaning_of, acknowledging, applying, is_good, with_timer_anew}
-use Rattle.ax25_link.specs.Frames.{receive_number}
-use Rattle.ax25_link.specs.Rows.{Outcome, accepting, out_of_sequence, entering, passed_over, replying, information_row, supervisory_row, with_busy, sending_again, numbered_row, up_row, calling_row, ending_row, row_of_state, is_call}
-use Rattle.ax25_link.specs.Timer.{is_down, runs_out, is_spent, trying, after_count}
-use Rattle.ax25_link.specs.Calls.{Doing, push, after_doing, DoesAll}
-use Rattle.ax25_link.specs.Sending.{Sending, Drains, next_sending, sends_reply, sends_farewell, with_piece}
-use Rattle.ax25_link.specs.LinkStep.{Coming, frame, tick, after_coming}
+use Rattle.std.specs.Prelude.{◌+◌, ◌==◌, ◌&&◌, ◌||◌, if◌then◌else◌}
 use Rattle.ax25_link.specs.Stations.{Stations, stations_of, IsFrameOf, SendsOwn, StationsLaw}
+use Rattle.ax25_link.proofs.Names.{Some, AllByRecursion, cond_both, nat_tests, CallSign, Control, I, Rr, Rnr, Rej, Sabm, Ua, FrameValue, LinkState, Calling, Up, Ending, Down, Window, IsWindow, LinkEnd, Reply, Farewell, high, outstanding, taken_count, ready, reject, refuse, enquire, oldest, goodbye, gone, Meaning, good, stale, bad, meaning_of, acknowledging, applying, is_good, with_timer_anew, receive_number, Outcome, accepting, out_of_sequence, entering, passed_over, replying, information_row, supervisory_row, with_busy, sending_again, numbered_row, up_row, calling_row, ending_row, row_of_state, is_call, is_down, runs_out, is_spent, trying, after_count, Doing, push, after_doing, DoesAll, Sending, Drains, next_sending, sends_reply, sends_farewell, with_piece, Coming, frame, tick, after_coming}
 use Rattle.ax25_link.proofs.SendLemmas.{sending_cases}
 
 -- whichever of two ends it is

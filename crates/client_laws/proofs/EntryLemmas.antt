@@ -1,29 +1,18 @@
 -- What a frame or a tick makes of an attempt is what the entries make that come of it.
 use Rattle.std.proofs.Common.{◌≡◌, ℕ, zero, suc, ◌≤◌, Bool, true, false, ◌&&◌, List, [], ◌∷◌, ◌++◌, length, take, drop, Option, None, Some, refl, sym, ◌∙◌, ap, ap₂, subst, append_assoc, append-nil, arith}
-use Rattle.std.specs.Prelude.{◌==◌, nat_le, if◌then◌else◌}
-use Rattle.std.proofs.lemmas.Bool.{cond_both, leb-true}
+use Rattle.std.specs.Prelude.{◌==◌, if◌then◌else◌}
 use Rattle.std.proofs.lemmas.List.{length-take, take_all}
 use Rattle.std.proofs.lemmas.List.Concat.{flat_map-append}
-use Rattle.std.proofs.lemmas.Option.{same_Some}
 use Rattle.ax25_link.specs.Calls.{Doing, DoesAll, after_doing, after_hang_up, after_push, hang_up, push}
-use Rattle.ax25_link.specs.Ends.{LinkEnd, free_octets}
 use Rattle.ax25_link.specs.LinkStep.{heard_of_tick}
-use Rattle.ax25_link.specs.Rows.{after_frame, heard_of}
 use Rattle.ax25_link.specs.Timer.{after_tick, is_up, told_of_tick}
 use Rattle.ax25_link.specs.declared.state.Heard.{Heard}
-use Rattle.ax25_link.specs.declared.state.Heard.TheVariants.{Nothing, Opened, Reopened, Bytes, Closed}
-use Rattle.ax25_link.specs.declared.state.LinkState.{LinkState}
-use Rattle.ax25_link.specs.declared.state.LinkState.TheVariants.{Up}
 use Rattle.ax25_link.specs.declared.state.LinkState.TheVariants as link
 use Rattle.ax25_link.specs.declared.state.Why.{Why}
 use Rattle.ftl0_packets.specs.Items.{kind_of_item, texts}
-use Rattle.ftl0_packets.specs.Layout.{Item, packet_text}
 use Rattle.ftl0_packets.proofs.SplitLemmas.{texts-append}
 use Rattle.packet_link.specs.Queuing.{enough_free, fits, on_due}
 use Rattle.packet_link.proofs.Queuing.{filling-keeps}
-use Rattle.client_notes.specs.Command.{NotesCommand}
-use Rattle.client_notes.specs.Laws.{after_all}
-use Rattle.client_notes.specs.Notes.{Lists}
 use Rattle.client_notes.proofs.Offered.{after_all-append}
 use Rattle.ftl0_job.specs.declared.ending.Ending.{Ending}
 use Rattle.ftl0_job.specs.declared.phases.UploadPhase.{UploadPhase}
@@ -33,13 +22,10 @@ use Rattle.ftl0_job.specs.declared.work.Work.TheVariants as work
 use Rattle.ftl0_job.specs.Due.{DuePacket, due_by, due_from, due_in, in_job, in_work, most_data, next_due}
 use Rattle.std.specs.Option.{option_map}
 use Rattle.ftl0_job.specs.Row.{Row}
-use Rattle.ftl0_job.specs.Table.{JobState, job_after, job_row}
 use Rattle.ftl0_job.specs.Upload.{Upload}
-use Rattle.ftl0_client.specs.Attempt.Attempted.{Attempted}
-use Rattle.ftl0_client.specs.Attempt.Hearing.{after_told, packets_told, settling, with_end}
 use Rattle.ftl0_client.specs.Attempt.Settling.{after_due, is_all_free, is_later, parting_later, queuing, settled}
-use Rattle.ftl0_client.specs.Attempt.Taking.{Happened, after_noting, after_replies, parting, quietly, taking, taking_by, taking_one}
 use Rattle.ftl0_client.specs.Entries.{GoesBy, HappensBy, HearingLaw, JobEntry, TickingLaw, after_losing, commands_of, entries_behind, entries_due, entries_taken, entry_by, items_in, items_of, lost, packets_said, passed, queued, said_in, took}
+use Rattle.client_laws.proofs.Names.{nat_le, cond_both, leb-true, same_Some, LinkEnd, free_octets, after_frame, heard_of, Nothing, Opened, Reopened, Bytes, Closed, LinkState, Up, Item, packet_text, NotesCommand, after_all, Lists, JobState, job_after, job_row, Attempted, after_told, packets_told, settling, with_end, Happened, after_noting, after_replies, parting, quietly, taking, taking_by, taking_one}
 use Rattle.client_laws.proofs.UpLemmas.{bytes-up}
 
 -- these entries make this of an attempt, over these notes, and take these packets

@@ -2,3 +2,4 @@ mod EntryLemmas
 mod StepLemmas
 mod StopLemmas
 mod UpLemmas
+mod Names

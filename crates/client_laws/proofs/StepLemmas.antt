@@ -1,22 +1,13 @@
 -- A client's step is by its attempt.
 use Rattle.std.proofs.Common.{◌≡◌, Bool, true, false, List, [], ◌∷◌, Option, None, Some, refl, sym, ◌∙◌, ap, subst}
 use Rattle.std.specs.Prelude.{if◌then◌else◌}
-use Rattle.std.proofs.lemmas.Option.{same_Some}
-use Rattle.ax25_frames.specs.FrameText.{FrameValue}
-use Rattle.ax25_link.specs.Ends.{LinkEnd, call, calling_end}
-use Rattle.ax25_link.specs.Frames.{frame_of_reply}
 use Rattle.ax25_link.specs.Refusals.{is_answered, refusal_frame}
 use Rattle.ax25_link.specs.Sending.{Drains, IsQuiet, Sending, next_sending, sends_reply}
-use Rattle.ax25_link.specs.Window.{Window}
 use Rattle.px_base.specs.CallSign.{CallSign}
-use Rattle.client_notes.specs.Laws.{after_all}
-use Rattle.ftl0_client.specs.Attempt.Attempted.{Attempted, calling}
-use Rattle.ftl0_client.specs.Attempt.Hearing.{hearing, ticking, with_end}
-use Rattle.ftl0_client.specs.Attempt.Taking.{Happened, quietly}
 use Rattle.ftl0_client.specs.Client.{Client, ClientHappened, ClientSends, IsSilent, Refused, attempt_for, heard_by, hearing_by, refusing, sends_by, sends_of_attempt, sends_of_link, ticking_by, with_attempt}
-use Rattle.client_notes.specs.Notes.{is_same_call}
 use Rattle.ftl0_client.specs.ClientStep.{Empties}
 use Rattle.client_laws.specs.Steps.{StepLaw}
+use Rattle.client_laws.proofs.Names.{same_Some, FrameValue, LinkEnd, call, calling_end, frame_of_reply, Window, after_all, Attempted, calling, hearing, ticking, with_end, Happened, quietly, is_same_call}
 use Rattle.client_laws.proofs.EntryLemmas.{hearing-law, ticking-law}
 
 -- ---- what the end of an attempt sends

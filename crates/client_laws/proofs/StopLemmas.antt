@@ -1,14 +1,8 @@
 -- What an event begins that stops at a packet is a front of what it has where nothing stops it.
 use Rattle.std.proofs.Common.{List, ap, sym, ◌∙◌, append_assoc}
-use Rattle.ftl0_packets.specs.Layout.{Item}
-use Rattle.client_notes.specs.Command.{NotesCommand}
-use Rattle.client_notes.specs.Laws.{after_all}
-use Rattle.ftl0_job.specs.Table.{job_row}
-use Rattle.ftl0_client.specs.Attempt.Attempted.{Attempted}
-use Rattle.ftl0_client.specs.Attempt.Hearing.{after_hearing}
-use Rattle.ftl0_client.specs.Attempt.Taking.{Happened, taking}
 use Rattle.ftl0_client.proofs.attempt.TakingLemmas.{noted-front}
 use Rattle.client_laws.specs.Stops.{FrontOfEventLaw}
+use Rattle.client_laws.proofs.Names.{Item, NotesCommand, after_all, job_row, Attempted, after_hearing, Happened, taking}
 
 pub front-of-event : FrontOfEventLaw
 front-of-event w lists a frame before item behind packets none =

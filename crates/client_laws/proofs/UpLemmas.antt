@@ -1,19 +1,11 @@
 -- Information is next in the stream only at an end that is up, and stays so.
 use Rattle.std.proofs.Common.{◌≡◌, ℕ, ◌==◌, true, false, refl, ◌∙◌}
 use Rattle.std.specs.Prelude.{if◌then◌else◌}
-use Rattle.std.proofs.lemmas.Bool.{cond_both}
 use Rattle.ax25_frames.specs.declared.control.Control.{Control}
 use Rattle.ax25_frames.specs.declared.control.Control.TheVariants.{I, Rr, Rnr, Rej, Sabm, Ua}
-use Rattle.ax25_frames.specs.FrameText.{FrameValue}
-use Rattle.ax25_link.specs.declared.state.Heard.TheVariants.{Bytes}
-use Rattle.ax25_link.specs.declared.state.LinkState.{LinkState}
-use Rattle.ax25_link.specs.declared.state.LinkState.TheVariants.{Calling, Up, Ending, Down}
 use Rattle.ax25_link.specs.Acknowledging.{Meaning, good, stale, bad, applying, is_bad, is_good, meaning_of}
-use Rattle.ax25_link.specs.Ends.{LinkEnd}
-use Rattle.ax25_link.specs.Frames.{receive_number}
-use Rattle.ax25_link.specs.Rows.{Outcome, after_frame, calling_row, ending_row, heard_of, information_row, numbered_row, row_of_state, sending_again, supervisory_row, up_row, with_busy}
-use Rattle.ax25_link.specs.Window.{Window}
 use Rattle.ax25_link.proofs.Offered.{acknowledging-keeps}
+use Rattle.client_laws.proofs.Names.{cond_both, FrameValue, Bytes, LinkState, Calling, Up, Ending, Down, LinkEnd, receive_number, Outcome, after_frame, calling_row, ending_row, heard_of, information_row, numbered_row, row_of_state, sending_again, supervisory_row, up_row, with_busy, Window}
 
 -- up, where information that is next was told
 abbrev BytesUp : Outcome → Type 0

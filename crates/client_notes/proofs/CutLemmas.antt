@@ -1,9 +1,6 @@
 -- Commands that are done, and those in which the disk failed.
 use Rattle.std.proofs.Common.{◌≡◌, List, [], ◌++◌, sym, subst}
-use Rattle.disk_model.specs.declared.disk.Disk.{Ghosts}
-use Rattle.client_notes.specs.Command.{NotesCommand}
-use Rattle.client_notes.specs.Several.{CutsOff, DoesSeveral}
-use Rattle.client_notes.specs.State.{IsReady, NotesState}
+use Rattle.client_notes.proofs.Names.{Ghosts, NotesCommand, CutsOff, DoesSeveral, IsReady, NotesState}
 use Rattle.client_notes.proofs.SeveralLemmas.{Several-none, Several-ready, Several-then}
 
 module _ {D : Type 0} (g : Ghosts D) (lasts : (disk : D) → g.lasts disk disk) where

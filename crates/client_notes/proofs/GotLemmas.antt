@@ -1,19 +1,7 @@
 -- What commands make of the octets got of a file.
 use Rattle.std.proofs.Common.{◌≡◌, ℕ, ◌+◌, ◌<◌, ◌≤◌, Bool, true, false, not, List, [], ◌∷◌, ◌++◌, length, filter, Option, None, Some, get_or, refl, sym, ◌∙◌, ap, arith, eq-eqb}
-use Rattle.std.specs.Prelude.{IsTrue, find, nat_le, nat_lt, slice_get, bytes_eq}
-use Rattle.std.specs.List.{position, position_or_len}
-use Rattle.std.proofs.Math.ListN.{set}
-use Rattle.std.proofs.lemmas.Bool.Decides.{nat_tests}
-use Rattle.std.proofs.lemmas.List.{get_or-set_other, get_or-set_same, length-set}
-use Rattle.std.proofs.lemmas.List.Folds.{find-append, find_at}
-use Rattle.std.proofs.lemmas.List.Quantifiers.{position-Some}
 use Rattle.std.proofs.lemmas.List.Sums.{position_or_len_is}
-use Rattle.std.proofs.lemmas.Option.{same_Some, slice_get-get_or, slice_get_past}
-use Rattle.std.proofs.lemmas.Slice.Eq.{bytes_eq-Decides}
-use Rattle.px_base.specs.CallSign.{CallSign}
-use Rattle.client_notes.specs.Limits.{longest_file}
-use Rattle.client_notes.specs.Command.{after, forgot, got, got_file, is_allowed, with_got, with_got_at, with_octets}
-use Rattle.client_notes.specs.Notes.{GotFile, Lists, got_of, is_file_of, is_same_call, octets_or_none}
+use Rattle.client_notes.proofs.Names.{IsTrue, find, nat_le, nat_lt, slice_get, bytes_eq, position, position_or_len, set, nat_tests, get_or-set_other, get_or-set_same, length-set, find-append, find_at, position-Some, same_Some, slice_get-get_or, slice_get_past, bytes_eq-Decides, CallSign, longest_file, after, forgot, got, got_file, is_allowed, with_got, with_got_at, with_octets, GotFile, Lists, got_of, is_file_of, is_same_call, octets_or_none}
 use Rattle.client_notes.proofs.ListLemmas.{got-there, with-got}
 
 -- where no element passes none is found

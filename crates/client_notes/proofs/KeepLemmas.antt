@@ -1,21 +1,9 @@
 -- What commands keep of tasks and of got files.
 use Rattle.std.proofs.Common.{◌≡◌, ℕ, zero, suc, ◌≤◌, ◌⊎◌, Bool, true, false, ◌&&◌, ◌==◌, List, [], ◌∷◌, ◌++◌, Option, None, Some, refl, ap, sym, ◌∙◌, subst, arith, inl, inr, append_assoc, append-nil}
-use Rattle.std.specs.Prelude.{IsTrue, find, if◌then◌else◌, slice_get, slice_set, nat_lt}
-use Rattle.std.specs.List.{position}
-use Rattle.std.specs.Option.{option_or}
-use Rattle.std.proofs.lemmas.Bool.{and_parts, eqb-true}
-use Rattle.std.proofs.lemmas.Bool.Decides.{nat_tests, eqb_tells}
-use Rattle.std.proofs.lemmas.List.Folds.{find-append}
-use Rattle.std.proofs.lemmas.List.Quantifiers.{position-Some}
-use Rattle.std.proofs.lemmas.Option.{get_or_from_slice_get}
-use Rattle.std.proofs.lemmas.Slice.Eq.{bytes_eq-Decides}
-use Rattle.px_base.specs.CallSign.{CallSign}
-use Rattle.px_base.specs.Octets.{IsFront}
-use Rattle.client_notes.specs.Command.{NotesCommand, acked, after, forgot, got, got_file, is_allowed, is_going, is_numbered, is_unnumbered, numbered, passes, refused, set_some, start, with_got, with_got_at, with_octets, with_task, without_got}
-use Rattle.client_notes.specs.Laws.{AreAllowed, after_all}
-use Rattle.client_notes.specs.Notes.{GotFile, Lists, Task, got_of, is_file_of, is_same_call, octets_or_none, task_of}
+use Rattle.std.specs.Prelude.{if◌then◌else◌}
 use Rattle.client_notes.specs.Tasks.{GoesOn, IsGivenUp, KeepsTasks, TasksLaw, got_after}
 use Rattle.client_notes.specs.declared.progress.Progress.TheVariants as progress
+use Rattle.client_notes.proofs.Names.{IsTrue, find, slice_get, slice_set, nat_lt, position, option_or, and_parts, eqb-true, nat_tests, eqb_tells, find-append, position-Some, get_or_from_slice_get, bytes_eq-Decides, CallSign, IsFront, NotesCommand, acked, after, forgot, got, got_file, is_allowed, is_going, is_numbered, is_unnumbered, numbered, passes, refused, set_some, start, with_got, with_got_at, with_octets, with_task, without_got, AreAllowed, after_all, GotFile, Lists, Task, got_of, is_file_of, is_same_call, octets_or_none, task_of}
 use Rattle.client_notes.proofs.GotLemmas.{forgot-none, got-append}
 use Rattle.client_notes.proofs.TaskLemmas.{both-left, passed, task-after, task-more, task-other}
 

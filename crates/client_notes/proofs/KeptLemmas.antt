@@ -1,29 +1,18 @@
 -- The notes as a state that is kept.
 use Rattle.std.proofs.Common.{◌≡◌, ◌≢◌, ◌↔◌, inl, inr, ⊎_elim, ℕ, zero, suc, ◌+◌, ◌<◌, ◌≤◌, List, [], ◌∷◌, Result, Ok, Err, IsErr, IsErrOf, OnErr, OnOk, refl, sym, ◌∙◌, ap, subst, arith}
-use Rattle.disk_model.specs.declared.disk.Disk.{Ghosts}
 use Rattle.file_journal.specs.Commands.{MakesBetween, after_first}
 use Rattle.file_journal.specs.Kept as kept
-use Rattle.file_journal.specs.Kept.{kept_on}
-use Rattle.file_journal.specs.Position.{Position}
 use Rattle.file_journal.specs.Recovery.{IsFailedSync, IsSyncedFirst}
 use Rattle.file_journal.specs.declared.faults.StoreFault.{StoreFault}
 use Rattle.file_journal.specs.declared.faults.StoreFault.TheVariants as fault
 use Rattle.file_journal.specs.declared.faults.JournalFault.{JournalFault}
 use Rattle.file_journal.specs.declared.faults.JournalFault.TheVariants as journal_fault
 use Rattle.file_journal.specs.declared.layout.Layout.TheVariants as layout
-use Rattle.file_journal.proofs.Offered.{does_same, paced_always, room_always, runs_same, told_weaker, weaker}
-use Rattle.client_notes.specs.Answers.{Noting}
-use Rattle.client_notes.specs.Command.{NotesCommand}
-use Rattle.client_notes.specs.Notes.{Lists}
-use Rattle.client_notes.specs.Noting.{lists_of, without}
-use Rattle.client_notes.specs.OnDisk.{Answers, Does, EachImage, IsBeforeOrAfter}
-use Rattle.client_notes.specs.Records.{notes_form}
-use Rattle.client_notes.specs.Recovery.{AnswersRecovery, IsRecovered, Recovers, StandsAlike}
-use Rattle.client_notes.specs.State.{IsReady, NotesState, StandsFor, StandsOn}
 use Rattle.client_notes.specs.declared.noted_lists.Coming.{Coming}
 use Rattle.client_notes.specs.declared.noted_lists.Coming.TheVariants as coming
 use Rattle.client_notes.specs.declared.noted_lists.NotedLists.{NotedLists}
 use Rattle.client_notes.specs.declared.refusals.NotesRefusal.TheVariants as refusal
+use Rattle.client_notes.proofs.Names.{Ghosts, kept_on, Position, does_same, paced_always, room_always, runs_same, told_weaker, weaker, Noting, NotesCommand, Lists, lists_of, without, Answers, Does, EachImage, IsBeforeOrAfter, notes_form, AnswersRecovery, IsRecovered, Recovers, StandsAlike, IsReady, NotesState, StandsFor, StandsOn}
 use Rattle.client_notes.proofs.PutLemmas.{IsPut, images-here, stands-notes}
 
 -- some number of one command

@@ -11,3 +11,4 @@ mod StandingLemmas
 mod StartLemmas
 mod TaskLemmas
 mod ThroughLemmas
+mod Names

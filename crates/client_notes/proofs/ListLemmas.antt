@@ -1,17 +1,8 @@
 -- What got octets make of the list of got files.
 use Rattle.std.proofs.Common.{◌≡◌, ℕ, zero, suc, ◌+◌, ◌<◌, ◌≤◌, Bool, true, false, List, [], ◌∷◌, length, Some, get_or, refl, sym, ◌∙◌, ap, arith}
-use Rattle.std.specs.Prelude.{◌&&◌, IsTrue, find, nat_le, nat_lt, slice_get}
-use Rattle.std.specs.List.{position}
-use Rattle.std.proofs.Math.ListN.{set}
-use Rattle.std.proofs.lemmas.List.{get_or-set_same, length-set, set-get_or, set-set, take-append-le, take_all}
-use Rattle.std.proofs.lemmas.List.Quantifiers.{position-Some}
-use Rattle.std.proofs.lemmas.Option.{same_Some, slice_get-get_or}
+use Rattle.std.specs.Prelude.{◌&&◌}
 use borrow.Author.Tests.{leb-true}
-use Rattle.px_base.specs.CallSign.{CallSign}
-use Rattle.client_notes.specs.Limits.{longest_file}
-use Rattle.client_notes.specs.Applied.{cut_to}
-use Rattle.client_notes.specs.Command.{changed_at, got, is_allowed, is_got_len, set_some, with_got, with_got_at, with_octets}
-use Rattle.client_notes.specs.Notes.{GotFile, Lists, Task, got_of, is_file_of, octets_or_none}
+use Rattle.client_notes.proofs.Names.{IsTrue, find, nat_le, nat_lt, slice_get, position, set, get_or-set_same, length-set, set-get_or, set-set, take-append-le, take_all, position-Some, same_Some, slice_get-get_or, CallSign, longest_file, cut_to, changed_at, got, is_allowed, is_got_len, set_some, with_got, with_got_at, with_octets, GotFile, Lists, Task, got_of, is_file_of, octets_or_none}
 
 -- the first element that passes, at its place
 find_at : {X : Type 0} (p : X → Bool) (xs : List X) (i : ℕ) (d : X) → i < length xs → p (get_or xs i d) ≡ true → ((k : ℕ) → k < i → p (get_or xs k d) ≡ false) → find p xs ≡ Some (get_or xs i d)

@@ -1,18 +1,8 @@
 -- What notes hold of their disk, and what stands there for them.
 use Rattle.std.proofs.Common.{◌≡◌, ℕ, ◌+◌, false, List, [], ◌∷◌, length, Some, Result, IsErr, IfSome, IsTrue, refl, sym, ap, subst, arith}
-use Rattle.disk_model.specs.declared.disk.Disk.{Ghosts}
-use Rattle.file_journal.specs.Calls.{images_now}
-use Rattle.file_journal.specs.Kept.{Does, IsKept, KeptOn, StandsAt, kept_on}
-use Rattle.file_journal.specs.Position.{Position}
-use Rattle.file_journal.specs.Records.{Record}
+use Rattle.file_journal.specs.Kept.{Does}
 use Rattle.file_journal.specs.Steps.{WritesTurn}
-use Rattle.file_journal.proofs.Offered.{held_kept, images_here, written_step}
-use Rattle.client_notes.specs.Command.{NotesCommand, after, is_allowed}
-use Rattle.client_notes.specs.Notes.{Lists}
-use Rattle.client_notes.specs.NotesLaws.{notes_number, notes_seen}
-use Rattle.client_notes.specs.Noting.{turn_of}
-use Rattle.client_notes.specs.Records.{IsWritable, notes_form, notes_step, notes_steps, record_of_command}
-use Rattle.client_notes.specs.State.{StandsFor, StandsOn}
+use Rattle.client_notes.proofs.Names.{Ghosts, images_now, IsKept, KeptOn, StandsAt, kept_on, Position, Record, held_kept, images_here, written_step, NotesCommand, after, is_allowed, Lists, notes_number, notes_seen, turn_of, IsWritable, notes_form, notes_step, notes_steps, record_of_command, StandsFor, StandsOn}
 use Rattle.client_notes.proofs.StandingLemmas.{notes_written}
 
 -- each image of a disk on which the journal stands for notes

@@ -1,18 +1,10 @@
 -- Lemmas on the records of commands.
 use Rattle.std.proofs.Common.{◌≡◌, ℕ, ◌+◌, ◌^◌, ◌<◌, ◌≤◌, ◌==◌, Bool, true, ◌&&◌, nat_le, nat_lt, List, [], ◌∷◌, ◌++◌, length, take, drop, Option, None, Some, refl, sym, ap, ◌∙◌, subst, arith, inl, inr, add-zero, append_assoc, length-append, length-drop, take-append-drop}
-use Rattle.std.specs.Prelude.{◌↔◌, if◌then◌else◌, slice_index}
-use Rattle.std.proofs.lemmas.Bool.{and_parts, eq-eqb, eqb-true, le-leb, leb-true, lt-ltb, ltb-true, ne_eqb}
-use Rattle.std.proofs.lemmas.Bool.Decides.{eqb_tells}
-use Rattle.std.proofs.lemmas.List.{get_or-drop, get_or_append_left, length-take-le, drop-append-le, drop-drop, drop_all, take-append-le, take_all}
-use Rattle.px_base.specs.CallSign.{CallSign}
+use Rattle.std.specs.Prelude.{◌↔◌, if◌then◌else◌}
 use Rattle.px_base.specs.Numbers.{le32, le32_octets}
-use Rattle.px_base.specs.Octets.{IsOctets}
 use Rattle.px_base.specs.CallOctets.{call_in, call_octets, call_of}
 use Rattle.px_base.proofs.Spelled.{law, length-IsSpelled}
-use Rattle.file_journal.specs.Records.{IsRecord, Record, record_of}
-use Rattle.file_journal.proofs.Offered.{eight, four, if_some, le32_below, map_some, number_at, number_front, octet_at, octets_call, octets_drop, octets_joined, octets_le32, octets_one, octets_part}
-use Rattle.client_notes.specs.Command.{NotesCommand, acked, forgot, got, numbered, refused, start}
-use Rattle.client_notes.specs.Records.{IsWritable, Writes, acked_in, command_of, forgot_by, forgot_in, got_by, got_in, is_start_len, numbered_in, record_of_command, refused_in, start_by, start_content, start_in}
+use Rattle.client_notes.proofs.Names.{slice_index, and_parts, eq-eqb, eqb-true, le-leb, leb-true, lt-ltb, ltb-true, ne_eqb, eqb_tells, get_or-drop, get_or_append_left, length-take-le, drop-append-le, drop-drop, drop_all, take-append-le, take_all, CallSign, IsOctets, IsRecord, Record, record_of, eight, four, if_some, le32_below, map_some, number_at, number_front, octet_at, octets_call, octets_drop, octets_joined, octets_le32, octets_one, octets_part, NotesCommand, acked, forgot, got, numbered, refused, start, IsWritable, Writes, acked_in, command_of, forgot_by, forgot_in, got_by, got_in, is_start_len, numbered_in, record_of_command, refused_in, start_by, start_content, start_in}
 
 -- a part within the octets has its length
 pub length-part : (octets : List ℕ) (i n : ℕ) → i + n ≤ length octets → length (take n (drop i octets)) ≡ n

@@ -1,17 +1,6 @@
 -- What several commands of a call do to the disk of the notes, one list of them after another.
 use Rattle.std.proofs.Common.{◌≡◌, inl, inr, ℕ, ◌+◌, List, [], ◌∷◌, ◌++◌, length, refl, ◌∙◌, ap, subst, arith, length-append, take}
-use Rattle.std.specs.Prelude.{IsTrue}
-use Rattle.disk_model.specs.declared.disk.Disk.{Ghosts}
-use Rattle.file_journal.specs.Calls.{images_now}
-use Rattle.file_journal.specs.Commands.{StayDone, done_at}
-use Rattle.file_journal.proofs.Offered.{after_all_append, allowed_append, at_told, does_longer, does_none, does_same, does_then, first_then, if_told, makes_first, makes_within, paces_exactly, told_before, told_weaker, weaker, allowed_first, allowed_split}
-use Rattle.client_notes.specs.Command.{NotesCommand, after, is_allowed}
-use Rattle.client_notes.specs.Laws.{AreAllowed, after_all}
-use Rattle.client_notes.specs.Notes.{Lists}
-use Rattle.client_notes.specs.OnDisk.{Does, IsBeforeOrAfter}
-use Rattle.client_notes.specs.Records.{notes_form}
-use Rattle.client_notes.specs.Several.{DoesSeveral, MakesBetween, MakesFirst, after_first, notes_on}
-use Rattle.client_notes.specs.State.{IsReady, NotesState, StandsFor}
+use Rattle.client_notes.proofs.Names.{IsTrue, Ghosts, images_now, StayDone, done_at, after_all_append, allowed_append, at_told, does_longer, does_none, does_same, does_then, first_then, if_told, makes_first, makes_within, paces_exactly, told_before, told_weaker, weaker, allowed_first, allowed_split, NotesCommand, after, is_allowed, AreAllowed, after_all, Lists, Does, IsBeforeOrAfter, notes_form, DoesSeveral, MakesBetween, MakesFirst, after_first, notes_on, IsReady, NotesState, StandsFor}
 
 -- a list of no length
 nothing : (commands : List NotesCommand) → length commands ≡ 0 → commands ≡ []

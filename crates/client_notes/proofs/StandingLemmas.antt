@@ -1,13 +1,7 @@
 -- What octets stand for as notes: the notes after the commands that their records are.
 use Rattle.std.proofs.Common.{ℕ, List, refl}
-use Rattle.px_base.specs.Octets.{IsOctets}
-use Rattle.file_journal.proofs.Offered.{Written, after_stands, stands_after, stepped, steps}
-use Rattle.client_notes.specs.Command.{NotesCommand, after, is_allowed}
-use Rattle.client_notes.specs.Records.{IsWritable, command_of, fresh_notes, notes_form, notes_step, record_of_command}
-use Rattle.client_notes.specs.Notes.{Lists}
+use Rattle.client_notes.proofs.Names.{IsOctets, Written, after_stands, stands_after, stepped, steps, NotesCommand, after, is_allowed, IsWritable, command_of, fresh_notes, notes_form, notes_step, record_of_command, Lists, IsNotesAfter, StandsFor}
 use Rattle.client_notes.proofs.RecordLemmas.{read-written, records}
-use Rattle.client_notes.specs.Laws.{IsNotesAfter}
-use Rattle.client_notes.specs.State.{StandsFor}
 
 -- the commands of notes as records
 abbrev pub notes_written : Written notes_form

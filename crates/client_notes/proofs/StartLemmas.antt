@@ -1,18 +1,12 @@
 -- What a start of the notes answers, by what is answered of the last task.
 use Rattle.std.proofs.Common.{◌≡◌, ℕ, ◌+◌, Bool, true, false, List, refl, sym, ap, ◌∙◌, subst, Option, None, Some}
-use Rattle.std.specs.Prelude.{Result, Ok, Err, ⊤}
-use Rattle.std.specs.Option.{option_map}
-use Rattle.px_base.specs.CallSign.{CallSign}
-use Rattle.client_notes.specs.Answers.{IsFull, StartsBy, answer_at, answer_by, answer_last, answer_of, noted_as, noted_at, noted_by}
-use Rattle.client_notes.specs.Notes.{Lists, Task, is_of_file, last_task, task_count, task_of}
-use Rattle.client_notes.specs.State.{NotesState}
 use Rattle.client_notes.specs.declared.answers.Begun.{Begun}
 use Rattle.client_notes.specs.declared.answers.Begun.TheVariants as begun
 use Rattle.client_notes.specs.declared.answers.Noted.TheVariants as noted
-use Rattle.client_notes.specs.declared.progress.Progress.{Progress}
 use Rattle.client_notes.specs.declared.progress.Progress.TheVariants as progress
 use Rattle.client_notes.specs.declared.refusals.NotesRefusal.{NotesRefusal}
 use Rattle.client_notes.specs.declared.refusals.NotesRefusal.TheVariants as refusal
+use Rattle.client_notes.proofs.Names.{Result, Ok, Err, ⊤, option_map, CallSign, IsFull, StartsBy, answer_at, answer_by, answer_last, answer_of, noted_as, noted_at, noted_by, Lists, Task, is_of_file, last_task, task_count, task_of, NotesState, Progress}
 
 -- ---- what is answered of a task
 

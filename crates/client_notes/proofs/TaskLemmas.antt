@@ -1,18 +1,9 @@
 -- What commands make of a task.
 use Rattle.std.proofs.Common.{◌≡◌, ◌≢◌, ⊎_elim, ℕ, ◌+◌, ◌-◌, ◌<◌, ◌≤◌, Bool, true, false, List, [], ◌∷◌, ◌++◌, length, Option, None, Some, refl, sym, ◌∙◌, ap, arith, length-append}
-use Rattle.std.specs.Prelude.{◌&&◌, ◌==◌, IsTrue, nat_le, nat_lt, slice_get}
-use Rattle.std.specs.Option.{option_map}
-use Rattle.std.proofs.Math.ListN.{set}
-use Rattle.std.proofs.lemmas.Bool.Decides.{eqb_tells, leb_tells, nat_tests}
-use Rattle.std.proofs.lemmas.List.{get_or-set_other, get_or-set_same, get_or_append_left, length-set}
-use Rattle.std.proofs.lemmas.Option.{get_or_from_slice_get, slice_get-get_or, slice_get_past, slice_get_within}
-use Rattle.client_notes.specs.Answers.{noted_as, noted_at, noted_by}
-use Rattle.client_notes.specs.Command.{NotesCommand, acked, after, changed_at, forgot, got, is_allowed, is_going, is_numbered, is_unnumbered, numbered, passes, refused, set_some, start, with_task}
-use Rattle.client_notes.specs.Laws.{AreAllowed, after_all}
-use Rattle.client_notes.specs.Notes.{Lists, Task, task_of}
+use Rattle.std.specs.Prelude.{◌&&◌, ◌==◌}
 use Rattle.client_notes.specs.declared.answers.Noted.TheVariants as noted
-use Rattle.client_notes.specs.declared.progress.Progress.{Progress}
 use Rattle.client_notes.specs.declared.progress.Progress.TheVariants as progress
+use Rattle.client_notes.proofs.Names.{IsTrue, nat_le, nat_lt, slice_get, option_map, set, eqb_tells, leb_tells, nat_tests, get_or-set_other, get_or-set_same, get_or_append_left, length-set, get_or_from_slice_get, slice_get-get_or, slice_get_past, slice_get_within, noted_as, noted_at, noted_by, NotesCommand, acked, after, changed_at, forgot, got, is_allowed, is_going, is_numbered, is_unnumbered, numbered, passes, refused, set_some, start, with_task, AreAllowed, after_all, Lists, Task, task_of, Progress}
 
 -- ---- a place of a list
 

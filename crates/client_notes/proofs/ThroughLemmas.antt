@@ -1,19 +1,10 @@
 -- What a command does to the disk of the notes, from their recovery on.
 use Rattle.std.proofs.Common.{◌≡◌, inr, ℕ, List, [], ◌++◌, ◌∙◌, subst, arith}
 use Rattle.px_base.specs.Outside.{Rose}
-use Rattle.disk_model.specs.declared.disk.Disk.{Ghosts}
-use Rattle.file_journal.specs.Calls.{CountsFault, Runs}
-use Rattle.file_journal.specs.Kept.{alone}
 use Rattle.file_journal.specs.Through.{CountsWrites, StandsThrough}
-use Rattle.file_journal.proofs.Offered.{alike_on, stops_on}
 use Rattle.file_journal.proofs.Offered as kept
+use Rattle.client_notes.proofs.Names.{Ghosts, CountsFault, Runs, alone, alike_on, stops_on, NotesCommand, notes_number, notes_form, Recovers, CutsOff, DoesSeveral, notes_on, NotesState}
 use Rattle.client_notes.proofs.SeveralLemmas.{Several-then}
-use Rattle.client_notes.specs.Command.{NotesCommand}
-use Rattle.client_notes.specs.NotesLaws.{notes_number}
-use Rattle.client_notes.specs.Records.{notes_form}
-use Rattle.client_notes.specs.Recovery.{Recovers}
-use Rattle.client_notes.specs.Several.{CutsOff, DoesSeveral, notes_on}
-use Rattle.client_notes.specs.State.{NotesState}
 
 -- What stands on the disk at each moment, what is counted, that without commands the disk is as the recovery left it, and
 -- that all is a run of calls.

@@ -1,8 +1,6 @@
 -- A text before and after its first octet of some value.
 use Rattle.std.proofs.Common.{◌≡◌, ◌==◌, ◌+◌, ℕ, suc, true, false, List, [], ◌∷◌, ◌++◌, refl, sym, ap, arith, inl, inr, true≢false, eqb-true, eq-eqb, one-add, drop}
-use Rattle.std.specs.List.{after_first, before_first, position_or_len}
-use Rattle.std.proofs.lemmas.Bool.{cases_Bool, or_parts}
-use Rattle.clap.specs.Lexer.{has_byte}
+use Rattle.command_words.proofs.Names.{after_first, before_first, position_or_len, cases_Bool, or_parts, has_byte}
 
 -- the place of the first such octet, or the length
 abbrev place_of : ℕ → List ℕ → ℕ

@@ -1,16 +1,8 @@
 -- When `clap` takes the words of a command with options and places, and what it finds.
 use Rattle.std.proofs.Common.{◌≡◌, ◌&&◌, ◌||◌, ℕ, Bool, true, false, cond, not, List, [], ◌∷◌, ◌++◌, map, drop, Option, None, Some, is_some, refl, sym, ap, ap₂, ◌∙◌, inl, inr, true≢false}
-use Rattle.std.specs.Prelude.{count_by, fold, slice_get}
-use Rattle.std.specs.List.{AllByRecursion, list_all, list_any}
-use Rattle.std.specs.Str.{bytes_eq}
-use Rattle.std.proofs.lemmas.Bool.{and_from, and_parts, cases_Bool, not-false, or_parts}
-use Rattle.clap.specs.Walk.{Held, Row, Rule, finished, first_of, has_row, is_early_multiple, nothing_held, rows_after, settled_rows, with_default}
-use Rattle.clap.specs.Simple.{App, Shape, built, filled_from, is_buildable, is_ready, is_ready_leaf, is_simple, matches_of, names_of, new_shape}
-use Rattle.clap.specs.Takes.{built_takes, default_passes, is_given, is_valid, level_passes, takes}
-use Rattle.clap.specs.Faults.{built_fault, check_fault, level_fault, fault_of, is_free_app, is_simple_and_free}
 use Rattle.clap.proofs.TakesLemmas.{leaf_takes}
 use Rattle.clap.proofs.FaultLemmas.{leaf_fault}
-use Rattle.command_words.specs.Lines.{are_places, command_of, option_of, place_of}
+use Rattle.command_words.proofs.Names.{count_by, fold, slice_get, AllByRecursion, list_all, list_any, bytes_eq, and_from, and_parts, cases_Bool, not-false, or_parts, Held, Row, Rule, finished, first_of, has_row, is_early_multiple, nothing_held, rows_after, settled_rows, with_default, App, Shape, built, filled_from, is_buildable, is_ready, is_ready_leaf, is_simple, matches_of, names_of, new_shape, built_takes, default_passes, is_given, is_valid, level_passes, takes, built_fault, check_fault, level_fault, fault_of, is_free_app, is_simple_and_free, are_places, command_of, option_of, place_of}
 use Rattle.command_words.proofs.Uses.{Text, Uses, has, values}
 use Rattle.command_words.proofs.Machine.{run}
 use Rattle.command_words.proofs.Rules.{AreApart, line_finds, line_next, line_rules, next_at, option_rule, place_rule, places_from, rows}

@@ -1,15 +1,7 @@
 -- What `clap` makes of one word.
 use Rattle.std.proofs.Common.{◌≡◌, ℕ, Bool, true, false, cond, List, [], ◌∷◌, ◌++◌, length, Option, None, Some, refl, sym, ◌∙◌, inl, inr, true≢false}
-use Rattle.std.specs.Prelude.{slice_get}
-use Rattle.std.specs.Str.{bytes_eq, chars}
-use Rattle.std.proofs.lemmas.Bool.{and_right, cases_Bool, or_right}
-use Rattle.clap.specs.Lexer.{long_of, short_of}
-use Rattle.clap.specs.Walk.{Held, Waiting, Walk, arg_by_index, arg_by_long, idle, option, settled_rows, walked}
-use Rattle.clap.specs.Simple.{Shape}
-use Rattle.clap.specs.Takes.{settle_passes, turn_passes}
-use Rattle.clap.specs.Faults.{flags_fault, settle_fault, long_fault, option_fault, stray_fault, turn_fault, use_fault}
-use Rattle.clap.specs.Kinds.{Kinds, or_else}
 use Rattle.clap.specs.declared.error.kind.ErrorKind.TheVariants as kind
+use Rattle.command_words.proofs.Names.{slice_get, bytes_eq, chars, and_right, cases_Bool, or_right, long_of, short_of, Held, Waiting, Walk, arg_by_index, arg_by_long, idle, option, settled_rows, walked, Shape, settle_passes, turn_passes, flags_fault, settle_fault, long_fault, option_fault, stray_fault, turn_fault, use_fault, Kinds, or_else}
 use Rattle.command_words.proofs.Uses.{Text, Uses, has, text_eq}
 use Rattle.command_words.proofs.Machine.{is_name}
 use Rattle.command_words.proofs.Rules.{Finds, Takes, has_row-rows, next_at, option_rule, option_takes, place_rule, row_added, rows}

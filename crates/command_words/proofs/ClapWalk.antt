@@ -1,14 +1,6 @@
 -- What `clap` makes of all the words is what `run` reads.
 use Rattle.std.proofs.Common.{◌≡◌, ◌≢◌, ◌==◌, arith, ne_eqb, ℕ, Bool, true, false, cond, List, [], ◌∷◌, ◌++◌, Option, None, Some, is_some, refl, sym, ap, ◌∙◌, subst, inl, inr}
-use Rattle.std.specs.Prelude.{fold, slice_get}
-use Rattle.std.specs.List.{AllByRecursion, before_first}
-use Rattle.std.specs.Str.{chars}
-use Rattle.std.proofs.lemmas.Bool.{cases_Bool}
-use Rattle.clap.specs.Walk.{Walk, Waiting, idle, option, settled_rows, walked}
-use Rattle.clap.specs.Simple.{Shape}
-use Rattle.clap.specs.Takes.{settle_passes, turn_passes, walk_passes}
-use Rattle.clap.specs.Faults.{settle_fault, turn_fault, walk_fault}
-use Rattle.command_words.specs.Grammar.{IsDashed}
+use Rattle.command_words.proofs.Names.{fold, slice_get, AllByRecursion, before_first, chars, cases_Bool, Walk, Waiting, idle, option, settled_rows, walked, Shape, settle_passes, turn_passes, walk_passes, settle_fault, turn_fault, walk_fault, IsDashed}
 use Rattle.command_words.proofs.Uses.{Text, Use, Uses, add, has}
 use Rattle.command_words.proofs.WordKinds.{Kind, ended, form, is_end, is_long, is_plain, is_short, kind, long, plain, short, kind-long, kind-plain, kind-short, value_in}
 use Rattle.command_words.proofs.Machine.{add_places, is_name, on_idle, on_place, on_waiting, run}

@@ -1,22 +1,11 @@
 -- What the words after a client's command mean, and that they mean only that.
 use Rattle.std.proofs.Common.{◌≡◌, ◌+◌, ◌≤◌, ℕ, true, List, [], ◌∷◌, length, Option, Result, Ok, Err, refl, sym, ap, ◌∙◌, subst, arith, inl, inr, codes}
-use Rattle.std.specs.List.{list_all}
-use Rattle.std.proofs.lemmas.Bool.{cases_lt}
 use Rattle.hex.specs.Hex.{decode_of}
 use Rattle.hex.specs.declared.error.FromHexError.{FromHexError}
 use Rattle.hex.proofs.HexLemmas.{decode_of-ok, decode_of-same}
-use Rattle.px_base.specs.CallSign.{CallText}
-use Rattle.command_words.specs.Clients.{AreTermsInRange, ClientText, FetchText, HexText, ListText, SendText, TermsText, client_options}
-use Rattle.command_words.specs.Commands.{AsksBy, client_word}
-use Rattle.command_words.specs.declared.command.ClientCommand.{ClientCommand}
 use Rattle.command_words.specs.declared.command.ClientCommand.TheVariants as client
 use Rattle.command_words.specs.declared.terms.ClientTerms.{ClientTerms}
-use Rattle.command_words.specs.declared.disk.DiskWord.TheVariants.{Named}
-use Rattle.command_words.specs.Disks.{IsDiskOf}
-use Rattle.command_words.specs.Grammar.{line_places, line_value}
-use Rattle.command_words.specs.Lines.{ClientLine, are_places, client_places, fetch_places, is_option_name}
-use Rattle.command_words.specs.Numbers.{IsNumberOr, NumberText, default_k, default_polls, number_after}
-use Rattle.command_words.specs.Words.{IsAir}
+use Rattle.command_words.proofs.Names.{list_all, cases_lt, CallText, AreTermsInRange, ClientText, FetchText, HexText, ListText, SendText, TermsText, client_options, AsksBy, client_word, ClientCommand, Named, IsDiskOf, line_places, line_value, ClientLine, are_places, client_places, fetch_places, is_option_name, IsNumberOr, NumberText, default_k, default_polls, number_after, IsAir}
 use Rattle.command_words.proofs.Uses.{Text}
 use Rattle.command_words.proofs.Meanings.{air_from, air_in, air_text, disk_in, in_range, number_one, one_text, same_call, same_places, same_value}
 use Rattle.command_words.proofs.Decided.{Decided, air_decided, call_decided, file_decided, line_decided, number_decided, number_or_decided, two_texts}

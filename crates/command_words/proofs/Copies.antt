@@ -1,6 +1,6 @@
 -- A copy of words.
 use Rattle.std.proofs.Common.{◌≡◌, List, [], ◌∷◌, map, refl, ap, ◌∙◌}
-use Rattle.std.specs.List.{AllZip}
+use Rattle.command_words.proofs.Names.{AllZip}
 
 -- what is seen of items, place by place, is seen of the lists
 pub copied : {A B : Type 0} → (seen : A → B) (xs ys : List A) → AllZip (λ x y. seen y ≡ seen x) xs ys → map seen ys ≡ map seen xs

@@ -1,20 +1,6 @@
 -- Each question that the command set asks of the words has an answer.
 use Rattle.std.proofs.Common.{◌≡◌, ◌==◌, ◌<◌, ◌≤◌, ◌⊎◌, ℕ, zero, suc, true, List, [], ◌∷◌, length, take, drop, Option, None, Some, unwrap_or, refl, sym, ap, ◌∙◌, subst, arith, inl, inr, codes, true≢false, append_assoc}
-use Rattle.std.specs.List.{AllByRecursion, after_first, before_first, list_all}
-use Rattle.std.specs.Str.{bytes_eq}
-use Rattle.std.proofs.lemmas.Bool.{cases_Bool, cases_lt}
-use Rattle.px_base.specs.CallSign.{CallSign, CallText, SsidText, base_length, padded, ssid_digits}
-use Rattle.px_base.proofs.Calls.{call_is, cut_of}
-use Rattle.clap.specs.Lexer.{has_byte}
-use Rattle.command_words.specs.Disks.{IsDiskOf}
-use Rattle.command_words.specs.declared.disk.DiskWord.{DiskWord}
-use Rattle.command_words.specs.declared.disk.DiskWord.TheVariants.{Fresh, Named}
-use Rattle.command_words.specs.Grammar.{Line, line_places, line_value}
-use Rattle.command_words.specs.Lines.{are_apart, are_places, is_option_name}
-use Rattle.header_tool.specs.Made.{MakeValue, spec_refusal}
-use Rattle.command_words.specs.Making.{MakeOptions, MakeSays, MakeText, make_options, options_given}
-use Rattle.command_words.specs.Numbers.{GivesNumber, IsDigit, IsNumberOr, NumberText, default_blocks, default_k, default_polls, number_after}
-use Rattle.command_words.specs.Words.{BodyText, CallGiven, IsAir, IsHostPort, NameText, ServeText, SessionText, serve_options, session_options}
+use Rattle.command_words.proofs.Names.{AllByRecursion, after_first, before_first, list_all, bytes_eq, cases_Bool, cases_lt, CallSign, CallText, SsidText, base_length, padded, ssid_digits, call_is, cut_of, has_byte, IsDiskOf, DiskWord, Fresh, Named, Line, line_places, line_value, are_apart, are_places, is_option_name, MakeValue, spec_refusal, MakeOptions, MakeSays, MakeText, make_options, options_given, GivesNumber, IsDigit, IsNumberOr, NumberText, default_blocks, default_k, default_polls, number_after, BodyText, CallGiven, IsAir, IsHostPort, NameText, ServeText, SessionText, serve_options, session_options}
 use Rattle.command_words.proofs.Bytes.{after_first-append, before_first-append, before_first-lacks, has_byte-append, split_at_byte}
 use Rattle.command_words.proofs.HostPorts.{all_lack, lack_all}
 use Rattle.command_words.proofs.Uses.{Text, Uses, text_eq, text_same}

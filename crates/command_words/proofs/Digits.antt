@@ -1,7 +1,7 @@
 -- Lemmas on the numbers that digits write.
 use Rattle.std.proofs.Common.{◌≡◌, ℕ, ◌+◌, ◌-◌, ◌*◌, ◌≤◌, ◌<◌, List, [], ◌∷◌, drop, length, get_or, sym, ◌∙◌, arith}
 use Rattle.std.proofs.lemmas.List.{at_drop_more}
-use Rattle.command_words.specs.Numbers.{number_after}
+use Rattle.command_words.proofs.Names.{number_after}
 
 -- further digits make a number no less
 pub number_after-le : (n : ℕ) (digits : List ℕ) → n ≤ number_after n digits

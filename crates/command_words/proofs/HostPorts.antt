@@ -1,12 +1,7 @@
 -- Where a word is cut at its first colon.
 use Rattle.std.proofs.Common.{◌≡◌, ◌≢◌, ◌<◌, ◌≤◌, ℕ, zero, suc, true, false, List, [], ◌∷◌, length, get_or, Option, None, Some, refl, sym, ◌∙◌, arith, append_assoc, Bor, is_some, true≢false, ne_eqb, eq-eqb, ◌==◌}
-use Rattle.clap.specs.Lexer.{has_byte}
-use Rattle.std.proofs.lemmas.Bool.{or_parts}
-use Rattle.std.specs.Prelude.{IfNone, IfSome}
-use Rattle.std.specs.List.{AllByRecursion}
 use Rattle.std.proofs.lemmas.Str.Pattern.{IsSplitOnceResult, split_after, split_parts}
-use Rattle.command_words.specs.Numbers.{NumberText}
-use Rattle.command_words.specs.Words.{IsHostPort}
+use Rattle.command_words.proofs.Names.{has_byte, or_parts, IfNone, IfSome, AllByRecursion, NumberText, IsHostPort}
 
 abbrev IsNone : ℕ → Type 0
 IsNone c = c ≢ 58

@@ -16,3 +16,4 @@ mod Rules
 mod Uses
 mod WordKinds
 mod Copies
+mod Names

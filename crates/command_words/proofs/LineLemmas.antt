@@ -1,22 +1,10 @@
 -- What the clauses of `clap` say of the words from COMMAND on.
 use Rattle.std.proofs.Common.{◌≡◌, true, List, [], ◌∷◌, length, map, drop, Option, None, Some, refl, sym, ap, ◌∙◌, string_bytes, codes, option_copied, option_map, Bor, Result, Err}
-use Rattle.std.specs.Prelude.{slice_get}
-use Rattle.std.specs.List.{AllByRecursion}
-use Rattle.std.specs.declared.string.String.{String}
-use Rattle.clap.specs.Walk.{first_of, rows_of}
-use Rattle.clap.specs.Simple.{App, HasMatchesOf, matches_of, with_rule}
 use Rattle.clap.specs.Matches.{first_value, found_of}
-use Rattle.clap.specs.Takes.{takes}
-use Rattle.clap.specs.Faults.{fault_of, is_simple_and_free}
 use Rattle.clap.specs.declared.parser.matches.ArgMatches.{ArgMatches}
 use Rattle.clap.proofs.WalkLemmas.{first_value-rows}
 use Rattle.command_words.specs.declared.request.Refusal.{Refusal}
-use Rattle.command_words.specs.Clients.{client_options}
-use Rattle.command_words.specs.Grammar.{Line}
-use Rattle.command_words.specs.Lines.{body_app, IsFound, IsLine, are_apart, client_app, client_places, command_of, drawn_app, fetch_app, fetch_places, make_app, serve_app, session_app}
-use Rattle.command_words.specs.Making.{make_options}
-use Rattle.command_words.specs.Rehearsals.{rehearse_options}
-use Rattle.command_words.specs.Words.{serve_options, session_options}
+use Rattle.command_words.proofs.Names.{slice_get, AllByRecursion, String, first_of, rows_of, App, HasMatchesOf, matches_of, with_rule, takes, fault_of, is_simple_and_free, client_options, Line, body_app, IsFound, IsLine, are_apart, client_app, client_places, command_of, drawn_app, fetch_app, fetch_places, make_app, serve_app, session_app, make_options, rehearse_options, serve_options, session_options}
 use Rattle.command_words.proofs.Uses.{Text, Uses, values}
 use Rattle.command_words.proofs.Machine.{is_name-from}
 use Rattle.command_words.proofs.Rules.{AreApart, rows}

@@ -1,11 +1,6 @@
 -- The words read one after another, and that this reads exactly the grammar.
 use Rattle.std.proofs.Common.{◌≡◌, ◌==◌, ℕ, zero, suc, Bool, true, false, cond, not, List, [], ◌∷◌, ◌++◌, Option, None, Some, unwrap_or, refl, sym, ap, ◌∙◌, subst, arith, inl, inr, true≢false, codes, append_assoc}
-use Rattle.std.specs.Prelude.{flat_map, Contains}
-use Rattle.std.specs.List.{AllByRecursion, list_all, list_any, after_first, before_first}
-use Rattle.std.specs.Str.{bytes_eq}
-use Rattle.std.proofs.lemmas.Bool.{and_parts, cases_Bool, not-true}
-use Rattle.clap.specs.Lexer.{has_byte}
-use Rattle.command_words.specs.Grammar.{IsDashed, IsPart, Part, joined, place, spaced, words_of, words_of_end}
+use Rattle.command_words.proofs.Names.{flat_map, Contains, AllByRecursion, list_all, list_any, after_first, before_first, bytes_eq, and_parts, cases_Bool, not-true, has_byte, IsDashed, IsPart, Part, joined, place, spaced, words_of, words_of_end}
 use Rattle.command_words.proofs.Bytes.{split_at_byte, before_first-all}
 use Rattle.command_words.proofs.WordKinds.{Kind, ended, form, is_end, is_long, is_plain, is_short, kind, kind-joined, kind-long, kind-plain, kind-short, kind-spaced, long, plain, short, value_in}
 use Rattle.command_words.proofs.Uses.{Text, Uses, add, text_eq, text_same}

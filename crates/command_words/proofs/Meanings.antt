@@ -1,34 +1,11 @@
 -- What the words of the built commands mean, and that they mean only that.
 use Rattle.std.proofs.Common.{◌≡◌, ◌≤◌, ◌⊎◌, ℕ, true, List, [], ◌∷◌, ◌++◌, append_assoc, length, map, drop, Option, None, Some, refl, sym, ap, ap₂, ◌∙◌, subst, arith, cond, inl, inr, codes, false, true≢false, get_or, string_bytes, take, take_all, ◌-◌}
-use Rattle.std.specs.declared.string.String.{String}
-use Rattle.std.specs.Prelude.{IfNone, IfSome, is_some, slice_get}
-use Rattle.std.specs.List.{list_all}
-use Rattle.std.specs.Str.{bytes_eq}
-use Rattle.std.proofs.lemmas.Bool.{cases_Bool}
-use Rattle.px_base.specs.CallSign.{CallSign, CallText}
-use Rattle.px_base.proofs.Calls.{one_call}
-use Rattle.clap.specs.Lexer.{has_byte}
-use Rattle.command_words.specs.Grammar.{Line, line_places, line_value}
-use Rattle.command_words.specs.Laws.{AsksServe, AsksSession}
-use Rattle.command_words.specs.Lines.{MakeLine, ServeLine, SessionLine, are_apart, are_places, is_option_name, options_read}
-use Rattle.header_tool.specs.Made.{MakeValue, spec_refusal}
-use Rattle.command_words.specs.Making.{MakeOptions, MakeSays, MakeText, make_options, options_given}
-use Rattle.command_words.specs.Numbers.{GivesNumber, IsNumberOr, default_blocks, default_k, default_polls}
-use Rattle.command_words.specs.Commands.{AsksBy, IsCommandOf, client_word, word_of}
-use Rattle.command_words.specs.declared.command.ClientCommand.{ClientCommand}
 use Rattle.command_words.specs.declared.command.ClientCommand.TheVariants as client
-use Rattle.command_words.specs.declared.command.CommandWord.{CommandWord}
 use Rattle.command_words.specs.declared.command.CommandWord.TheVariants as word
-use Rattle.command_words.specs.declared.command.FileCommand.{FileCommand}
-use Rattle.command_words.specs.declared.command.FileCommand.TheVariants.{Check, Frames, Show}
 use Rattle.command_words.specs.declared.line.MakeTexts.{MakeTexts}
 use Rattle.command_words.specs.Airs.{IsAirOf}
 use Rattle.command_words.specs.declared.air.AirWord.{AirWord}
-use Rattle.command_words.specs.declared.air.AirWord.TheVariants.{HostPort, Nothing, Standard}
-use Rattle.command_words.specs.Disks.{IsDiskOf}
-use Rattle.command_words.specs.declared.disk.DiskWord.{DiskWord}
-use Rattle.command_words.specs.declared.disk.DiskWord.TheVariants.{Fresh, Named}
-use Rattle.command_words.specs.Words.{AreInRange, AsksRehearse, CallGiven, InSet, IsAir, IsBody, IsHostPort, IsMake, IsNamed, IsUsage, NeedsAir, NeedsNeither, ServeText, SessionText, serve_options, session_options}
+use Rattle.command_words.proofs.Names.{String, IfNone, IfSome, is_some, slice_get, list_all, bytes_eq, cases_Bool, CallSign, CallText, one_call, has_byte, Line, line_places, line_value, AsksServe, AsksSession, MakeLine, ServeLine, SessionLine, are_apart, are_places, is_option_name, options_read, MakeValue, spec_refusal, MakeOptions, MakeSays, MakeText, make_options, options_given, GivesNumber, IsNumberOr, default_blocks, default_k, default_polls, AsksBy, IsCommandOf, client_word, word_of, ClientCommand, CommandWord, FileCommand, Check, Frames, Show, HostPort, Nothing, Standard, IsDiskOf, DiskWord, Fresh, Named, AreInRange, AsksRehearse, CallGiven, InSet, IsAir, IsBody, IsHostPort, IsMake, IsNamed, IsUsage, NeedsAir, NeedsNeither, ServeText, SessionText, serve_options, session_options}
 use Rattle.command_words.proofs.Bytes.{has_byte-append}
 use Rattle.command_words.proofs.Uses.{Text, Uses, text_eq, text_same, values}
 use Rattle.command_words.proofs.Machine.{is_name}

@@ -1,24 +1,10 @@
 -- Each list of words has one meaning.
 use Rattle.std.proofs.Common.{◌≡◌, ◌≤◌, ◌⊎◌, ℕ, List, [], ◌∷◌, length, Option, None, Some, refl, sym, ap, ◌∙◌, subst, arith, inl, inr, codes, false, true≢false}
-use Rattle.std.specs.Str.{bytes_eq}
-use Rattle.std.proofs.lemmas.Bool.{cases_Bool}
-use Rattle.px_base.specs.CallSign.{CallSign, CallText}
-use Rattle.command_words.specs.Commands.{AsksBy, IsCommandOf, client_word, word_of}
-use Rattle.command_words.specs.declared.command.ClientCommand.{ClientCommand}
 use Rattle.command_words.specs.declared.command.ClientCommand.TheVariants as client
-use Rattle.command_words.specs.declared.command.CommandWord.{CommandWord}
 use Rattle.command_words.specs.declared.command.CommandWord.TheVariants as word
-use Rattle.command_words.specs.declared.command.FileCommand.{FileCommand}
-use Rattle.command_words.specs.declared.command.FileCommand.TheVariants.{Check, Frames, Show}
-use Rattle.command_words.specs.Disks.{IsDiskOf}
-use Rattle.command_words.specs.declared.disk.DiskWord.{DiskWord}
-use Rattle.command_words.specs.Grammar.{line_value}
-use Rattle.command_words.specs.Laws.{AsksFrames, AsksServe, AsksSession, Determined, OnlyBody, OnlyMake, OnlyOne}
-use Rattle.command_words.specs.Making.{options_given}
-use Rattle.command_words.specs.Numbers.{GivesNumber, default_blocks, default_k, default_polls}
 use Rattle.command_words.specs.declared.request.SessionRequest.{SessionRequest}
 use Rattle.command_words.specs.declared.serve.ServeRequest.{ServeRequest}
-use Rattle.command_words.specs.Words.{AsksClient, AsksHeader, AsksRehearse, CallGiven, IsAir, IsNamed, IsServe, IsSession, IsUsage, NameText, NeedsAir, NeedsNeither}
+use Rattle.command_words.proofs.Names.{bytes_eq, cases_Bool, CallSign, CallText, AsksBy, IsCommandOf, client_word, word_of, ClientCommand, CommandWord, FileCommand, Check, Frames, Show, IsDiskOf, DiskWord, line_value, AsksFrames, AsksServe, AsksSession, Determined, OnlyBody, OnlyMake, OnlyOne, options_given, GivesNumber, default_blocks, default_k, default_polls, AsksClient, AsksHeader, AsksRehearse, CallGiven, IsAir, IsNamed, IsServe, IsSession, IsUsage, NameText, NeedsAir, NeedsNeither}
 use Rattle.command_words.proofs.Uses.{Text, text_eq, text_same}
 use Rattle.command_words.proofs.Meanings.{AreOf, air_from, air_in, air_text, body_usage, client_usage, disk_in, disk_of, make_says, make_usage, name_usage, neither_from, neither_text, no_command_usage, not_both, number_one, of_set, one_disk, rehearse_usage, same_call, same_places, says_one, serve_given, serve_usage, session_given, session_usage, third_word}
 use Rattle.command_words.proofs.ClientTexts.{by_decided, fetch_same, list_same, send_same}

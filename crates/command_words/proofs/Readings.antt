@@ -1,14 +1,7 @@
 -- What is read of the words are the places and the values of a line.
 use Rattle.std.proofs.Common.{◌≡◌, ◌≤◌, ℕ, zero, suc, Bool, true, false, not, List, [], ◌∷◌, ◌++◌, length, map, Option, None, Some, unwrap_or, refl, sym, ap, ap₂, ◌∙◌, subst, arith, inl, inr, true≢false, string_bytes}
-use Rattle.std.specs.Prelude.{Contains, flat_map, slice_get}
-use Rattle.std.specs.List.{AllByRecursion, list_all}
-use Rattle.std.specs.Str.{bytes_eq, chars, IsUtf8}
-use Rattle.std.specs.declared.string.String.{String}
-use Rattle.std.proofs.lemmas.Bool.{and_parts, cases_Bool, not-true, or_parts, or_right}
 use Rattle.std.proofs.lemmas.Str.{IsCharBoundary-after_ascii, IsUtf8-drop, IsUtf8-string_bytes, encodes-chars}
-use Rattle.clap.specs.Lexer.{has_byte}
-use Rattle.command_words.specs.Grammar.{IsPart, Line, Part, joined, line_places, line_value, place, place_in, spaced, value_in, values_of}
-use Rattle.command_words.specs.Lines.{are_apart, are_places, is_option_name}
+use Rattle.command_words.proofs.Names.{Contains, flat_map, slice_get, AllByRecursion, list_all, bytes_eq, chars, IsUtf8, String, and_parts, cases_Bool, not-true, or_parts, or_right, has_byte, IsPart, Line, Part, joined, line_places, line_value, place, place_in, spaced, value_in, values_of, are_apart, are_places, is_option_name}
 use Rattle.command_words.proofs.Uses.{Text, Uses, add, add_all, add_all-is, add_all-single, add_all-some, has, has-none, has-values, text_eq, text_same, value_of, values}
 use Rattle.command_words.proofs.Machine.{add_places, is_good, is_name, is_name-from, run, run-read, run-written, uses_after, written_by}
 use Rattle.command_words.proofs.Rules.{AreApart, name_other, place_other}

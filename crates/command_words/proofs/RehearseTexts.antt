@@ -1,15 +1,8 @@
 -- What the words of `rehearse` mean, and that they mean only that.
 use Rattle.std.proofs.Common.{◌≡◌, ◌≤◌, ◌⊎◌, ℕ, List, [], ◌∷◌, ◌++◌, length, Option, None, Some, unwrap_or, refl, sym, ap, ◌∙◌, subst, arith, inl, inr, codes, true≢false}
-use Rattle.std.specs.Prelude.{flat_map, slice_get}
-use Rattle.std.specs.List.{AllByRecursion}
-use Rattle.command_words.specs.Asked.{AsksRehearseFor, IsRehearseText}
 use Rattle.command_words.specs.declared.rehearse.RehearseRequest.{RehearseRequest}
 use Rattle.command_words.specs.declared.rehearse.RehearseRequest.TheVariants.{Drawn, Schedule}
-use Rattle.command_words.specs.Grammar.{IsDashed, IsPart, Line, Part, Reading, joined, line_value, place, place_in, spaced, value_in, words_of, words_of_end}
-use Rattle.command_words.specs.Lines.{DrawnLine}
-use Rattle.command_words.specs.Numbers.{GivesNumber, NumberText, number_after}
-use Rattle.command_words.specs.Rehearsals.{AreDrawable, DrawnText, rehearse_options}
-use Rattle.command_words.specs.Words.{AsksRehearse, IsAir, NameText}
+use Rattle.command_words.proofs.Names.{flat_map, slice_get, AllByRecursion, AsksRehearseFor, IsRehearseText, IsDashed, IsPart, Line, Part, Reading, joined, line_value, place, place_in, spaced, value_in, words_of, words_of_end, DrawnLine, GivesNumber, NumberText, number_after, AreDrawable, DrawnText, rehearse_options, AsksRehearse, IsAir, NameText}
 use Rattle.command_words.proofs.Uses.{Text}
 use Rattle.command_words.proofs.Machine.{is_name-from}
 use Rattle.command_words.proofs.Meanings.{neither_from, neither_text, of_line}

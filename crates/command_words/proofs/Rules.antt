@@ -1,19 +1,11 @@
 -- The rules of a command with options and places, as `clap` keeps them when it has built the command, and one use of them.
 use Rattle.std.proofs.Common.{◌≡◌, ◌+◌, ◌<◌, ◌≤◌, ◌&&◌, ◌||◌, ℕ, min, nat_lt, Bool, true, false, cond, not, List, [], ◌∷◌, ◌++◌, length, map, None, Some, refl, sym, ap, ◌∙◌, subst, arith, eq-eqb, inl, inr, ne_eqb, true≢false, append-nil}
-use Rattle.std.specs.Str.{bytes_eq}
-use Rattle.std.proofs.lemmas.Bool.{and_parts, cases_Bool, ltb-true, not-true, or_parts, or_right}
 use Rattle.clap.specs.declared.builder.action.ArgAction.TheVariants.{Set}
 use Rattle.clap.specs.declared.builder.value_parser.ValueParser.TheVariants as vp
 use Rattle.clap.specs.declared.builder.value_parser.Reading.TheVariants as reading
 use Rattle.clap.specs.declared.parser.matches.ValueSource.TheVariants.{CommandLine}
-use Rattle.clap.specs.Walk.{Row, Rule, arg_by_id, arg_by_index, arg_by_long, arg_by_short, at_row, has_row, more_values, used, with_values, without}
-use Rattle.clap.specs.Simple.{new_rule}
-use Rattle.clap.specs.Takes.{use_passes}
-use Rattle.clap.specs.Faults.{use_fault}
-use Rattle.clap.specs.Kinds.{or_else}
-use Rattle.clap.specs.Lexer.{usize_max}
 use Rattle.clap.specs.declared.error.kind.ErrorKind.TheVariants as kind
-use Rattle.command_words.specs.Lines.{are_apart, are_places}
+use Rattle.command_words.proofs.Names.{bytes_eq, and_parts, cases_Bool, ltb-true, not-true, or_parts, or_right, Row, Rule, arg_by_id, arg_by_index, arg_by_long, arg_by_short, at_row, has_row, more_values, used, with_values, without, new_rule, use_passes, use_fault, or_else, usize_max, are_apart, are_places}
 use Rattle.command_words.proofs.Uses.{Text, Use, Uses, has, text_eq, text_same}
 use Rattle.command_words.proofs.Machine.{is_name}
 

@@ -1,10 +1,6 @@
 -- What a word is: the end of the options, a long option, short ones, or a plain word.
 use Rattle.std.proofs.Common.{◌≡◌, ◌≢◌, ◌==◌, ◌≤◌, ℕ, false, cond, List, [], ◌∷◌, ◌++◌, Option, None, Some, refl, ap, ◌∙◌, arith, inl, inr, ne_eqb, codes, append_assoc}
-use Rattle.std.specs.List.{after_first, before_first}
-use Rattle.std.specs.Str.{bytes_eq}
-use Rattle.std.proofs.lemmas.Bool.{cases_eq, cases_Bool}
-use Rattle.clap.specs.Lexer.{has_byte, long_of, short_of}
-use Rattle.command_words.specs.Grammar.{IsDashed}
+use Rattle.command_words.proofs.Names.{after_first, before_first, bytes_eq, cases_eq, cases_Bool, has_byte, long_of, short_of, IsDashed}
 use Rattle.command_words.proofs.Bytes.{after_first-append, before_first-all, before_first-append, has_byte-append}
 
 pub data Kind : Type 0 where

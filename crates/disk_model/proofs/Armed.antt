@@ -1,18 +1,9 @@
 -- What the calls of a disk in memory leave of its counts, and of how a fuse round it is armed.
 use Rattle.std.proofs.Common.{◌≡◌, inl, inr, ℕ, ◌+◌, ◌≤◌, List, [], ◌∷◌, ◌++◌, length, true, false, refl, sym, ◌∙◌, ap, subst, arith, Ok, Err, Result, Contains}
-use Rattle.std.proofs.lemmas.Grind.{common_steps}
-use Rattle.disk_model.specs.Calls.{DiskState, IsFailingSync, IsPowerCut, IsSyncing, IsTearing, IsWriting, content_of, images_of, images_since_of, moment_of, surface, with_starved}
-use Rattle.disk_model.specs.Cuts.{Arming, Failed, LastsSo, Passes, Unarmed, UsesUp}
-use Rattle.disk_model.specs.Disk.{Only}
-use Rattle.px_base.specs.Outside.{Rose}
-use Rattle.std.proofs.lemmas.Bool.{cases_Bool}
-use Rattle.disk_model.specs.Fuse.{FuseState, IsTornNext, arming_in, cut_of}
-use Rattle.disk_model.specs.Moments.{SamePast}
-use Rattle.disk_model.specs.Surface.{ImagesSince, IsImage, Surface, left_by, moments_in, quiet_surface, surface_after}
-use Rattle.disk_model.specs.declared.disk_call.DiskCall.{DiskCall}
 use Rattle.disk_model.specs.declared.disk_call.DiskCall.TheVariants as call
 use Rattle.disk_model.specs.declared.fuse_disk.FuseStage.{FuseStage}
 use Rattle.disk_model.specs.declared.fuse_disk.FuseStage.TheVariants as stage
+use Rattle.disk_model.proofs.Names.{common_steps, DiskState, IsFailingSync, IsPowerCut, IsSyncing, IsTearing, IsWriting, content_of, images_of, images_since_of, moment_of, surface, with_starved, Arming, Failed, LastsSo, Passes, Unarmed, UsesUp, Only, Rose, cases_Bool, FuseState, IsTornNext, arming_in, cut_of, SamePast, ImagesSince, IsImage, Surface, left_by, moments_in, quiet_surface, surface_after, DiskCall}
 use Rattle.disk_model.proofs.Ranges.{cut_surface}
 use Rattle.disk_model.proofs.Steps.{cut_keeps_past, moments_in-push}
 use Rattle.disk_model.proofs.Surfaces.{quiet_leaves_only, surface_after-push}

@@ -1,14 +1,7 @@
 -- What writes found, and what undoing them gives.
 use Rattle.std.proofs.Common.{◌≡◌, inl, inr, ⊎_elim, ℕ, ◌+◌, ◌-◌, ◌^◌, ◌<◌, ◌≤◌, max, min, List, [], ◌∷◌, ◌++◌, length, get_or, take, drop, replicate, reverse, Option, Some, refl, sym, ◌∙◌, ap, subst, arith, fold}
-use Rattle.std.proofs.lemmas.List.{places, same_lists, drop-drop, ext_get_or, get_or-drop, get_or-take, length-append, length-drop, length-take, map-append, reverse-append, take_all, take_more}
-use Rattle.std.proofs.lemmas.Bool.{cases_lt}
-use Rattle.std.proofs.lemmas.List.Elements.{All-tail}
-use Rattle.disk_model.specs.Surface.{AllLeaveOpen, Closes, IsImage, Surface, overlay, quiet_surface, surface_after, surface_after_call, with_range, write_over}
-use Rattle.disk_model.specs.Open.{IsClosed, LeaveOpen}
-use Rattle.disk_model.specs.Undone.{StandsOpen, Undoes, before_writes, call_of, calls_of, found_by, synced_before, undone}
-use Rattle.disk_model.specs.declared.disk_call.DiskCall.{DiskCall}
 use Rattle.disk_model.specs.declared.disk_call.DiskCall.TheVariants as call
-use Rattle.disk_model.specs.declared.open_write.OpenWrite.{OpenWrite}
+use Rattle.disk_model.proofs.Names.{places, same_lists, drop-drop, ext_get_or, get_or-drop, get_or-take, length-append, length-drop, length-take, map-append, reverse-append, take_all, take_more, cases_lt, All-tail, AllLeaveOpen, Closes, IsImage, Surface, overlay, quiet_surface, surface_after, surface_after_call, with_range, write_over, IsClosed, LeaveOpen, StandsOpen, Undoes, before_writes, call_of, calls_of, found_by, synced_before, undone, DiskCall, OpenWrite}
 use Rattle.disk_model.proofs.Crashes.{IsTorn, inside_or_not}
 use Rattle.disk_model.proofs.Ranges.{closes_failed_sync, closes_now, closes_torn_write, closes_write, length-overlay, overlay_inside, overlay_outside, parted, stands_since}
 use Rattle.disk_model.proofs.Surfaces.{surface_after-push}

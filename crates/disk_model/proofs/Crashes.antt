@@ -1,11 +1,7 @@
 -- What stands of a surface that is torn write by write.
 use Rattle.std.proofs.Common.{◌≡◌, ◌⊎◌, inl, inr, ⊎_elim, ℕ, ◌+◌, ◌/◌, ◌%◌, ◌<◌, ◌≤◌, List, [], ◌∷◌, length, get_or, Option, Some, Result, Ok, Err, OnOk, refl, ◌∙◌, subst, arith, fold}
-use Rattle.std.proofs.lemmas.Bool.{cases_lt}
-use Rattle.std.proofs.lemmas.List.Elements.{All-tail}
-use Rattle.disk_model.specs.Crash.{IsCrash, IsFilled, Tears}
-use Rattle.disk_model.specs.Surface.{AllLeaveOpen, Closes, IsImage, IsInRange, IsOpen, Surface, with_range, surface_after_call}
-use Rattle.disk_model.specs.declared.disk_call.DiskCall.{DiskCall}
 use Rattle.disk_model.specs.declared.disk_call.DiskCall.TheVariants as call
+use Rattle.disk_model.proofs.Names.{cases_lt, All-tail, IsCrash, IsFilled, Tears, AllLeaveOpen, Closes, IsImage, IsInRange, IsOpen, Surface, with_range, surface_after_call, DiskCall}
 
 -- what stands of a surface that is torn write by write, where each octet that may be any is this one, if there is one
 pub record IsTorn (surface : Surface) (picked : Option ℕ) (image : List ℕ) : Type 0 where

@@ -6,3 +6,4 @@ mod Steps
 mod Surfaces
 mod Walks
 pub mod Writes
+mod Names

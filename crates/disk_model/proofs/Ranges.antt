@@ -1,15 +1,8 @@
 -- What stands in the ranges that are open.
 use Rattle.std.proofs.Common.{◌≡◌, ◌⊎◌, inl, inr, ⊎_elim, ℕ, ◌+◌, ◌-◌, ◌^◌, ◌<◌, ◌≤◌, min, List, [], ◌∷◌, ◌++◌, length, get_or, take, drop, refl, sym, ◌∙◌, ap, subst, arith}
-use Rattle.std.proofs.lemmas.List.{places, ext_get_or, get_or-drop, get_or-take, length-append, length-drop, length-take, take-append-le, take-append-drop, take_all}
-use Rattle.std.proofs.Math.Nat.{le_refl}
 use Rattle.std.proofs.Math.Seq.{drop-append_seam}
-use Rattle.std.proofs.lemmas.List.Elements.{All-append}
-use Rattle.px_base.specs.Octets.{IsOctets}
-use Rattle.disk_model.specs.Crash.{IsCrash}
-use Rattle.disk_model.specs.Open.{IsClosed, StandsSince, inside_of, standing}
-use Rattle.disk_model.specs.Surface.{AllLeaveOpen, Closes, IsImage, IsInRange, IsOpen, Surface, left_by, overlay, quiet_surface, surface_after, surface_after_call, with_ranges, write_over}
-use Rattle.disk_model.specs.declared.disk_call.DiskCall.{DiskCall}
 use Rattle.disk_model.specs.declared.disk_call.DiskCall.TheVariants as call
+use Rattle.disk_model.proofs.Names.{places, ext_get_or, get_or-drop, get_or-take, length-append, length-drop, length-take, take-append-le, take-append-drop, take_all, le_refl, All-append, IsOctets, IsCrash, IsClosed, StandsSince, inside_of, standing, AllLeaveOpen, Closes, IsImage, IsInRange, IsOpen, Surface, left_by, overlay, quiet_surface, surface_after, surface_after_call, with_ranges, write_over, DiskCall}
 use Rattle.disk_model.proofs.Crashes.{inside_or_not}
 use Rattle.disk_model.proofs.Surfaces.{images_of_this_content, surface_after-push}
 use Rattle.disk_model.proofs.Writes.{get_or-write_over_outside, length-write_over}

@@ -1,17 +1,7 @@
 -- What a call of a disk in memory leaves of its content, its images and its past.
 use Rattle.std.proofs.Common.{◌≡◌, ◌⊎◌, inl, inr, ℕ, ◌+◌, ◌<◌, ◌≤◌, List, true, false, [], ◌∷◌, ◌++◌, length, take, drop, refl, sym, ◌∙◌, ap, subst, arith, Some, Ok, Err, Result, OnOk, zero-add}
-use Rattle.std.proofs.lemmas.Bool.{cases_Bool, cases_lt}
-use Rattle.std.proofs.lemmas.List.{length_push, take_all, take-append-drop, take-append-le}
-use Rattle.std.proofs.lemmas.List.Sums.{sum_by-append}
-use Rattle.std.proofs.Math.Nat.{le_refl}
-use Rattle.px_base.specs.Outside.{HasCause}
-use Rattle.px_base.specs.Octets.{IsOctets}
-use Rattle.disk_model.specs.Calls.{DiskState, IsFailingSync, IsRefused, IsSyncing, IsTearing, IsWriting, content_of, images_of, images_since_of, moment_of, surface, with_starved}
-use Rattle.disk_model.specs.Disk.{Follows, HasContent, Only, Torn, Writes}
-use Rattle.disk_model.specs.Moments.{Elapses, SamePast}
-use Rattle.disk_model.specs.Surface.{ImagesSince, IsImage, Surface, moments_in, moments_of, with_range, surface_after, surface_after_call, write_over}
-use Rattle.disk_model.specs.declared.disk_call.DiskCall.{DiskCall}
 use Rattle.disk_model.specs.declared.disk_call.DiskCall.TheVariants as call
+use Rattle.disk_model.proofs.Names.{cases_Bool, cases_lt, length_push, take_all, take-append-drop, take-append-le, sum_by-append, le_refl, HasCause, IsOctets, DiskState, IsFailingSync, IsRefused, IsSyncing, IsTearing, IsWriting, content_of, images_of, images_since_of, moment_of, surface, with_starved, Follows, HasContent, Only, Torn, Writes, Elapses, SamePast, ImagesSince, IsImage, Surface, moments_in, moments_of, with_range, surface_after, surface_after_call, write_over, DiskCall}
 use Rattle.disk_model.proofs.Surfaces.{quiet_leaves_only, images_of_this_content, images_of_other_content, with_range_keeps, surface_after-push, torn_from, torn_leaves}
 use Rattle.disk_model.proofs.Writes.{torn_by_places, write_over_writes}
 

@@ -1,13 +1,6 @@
 -- How what a crash may leave changes with the calls of a disk.
 use Rattle.std.proofs.Common.{◌≡◌, inl, inr, ⊎_elim, ℕ, ◌+◌, ◌<◌, ◌≤◌, min, List, [], ◌∷◌, ◌++◌, length, get_or, take, sym, ◌∙◌, arith}
-use Rattle.std.proofs.lemmas.Bool.{cases_lt}
-use Rattle.std.proofs.lemmas.List.{ext_get_or, get_or-take, length-take}
-use Rattle.std.proofs.lemmas.List.Elements.{All-take}
-use Rattle.std.proofs.lemmas.List.Sums.{fold-append}
-use Rattle.disk_model.specs.declared.disk_call.DiskCall.{DiskCall}
-use Rattle.px_base.specs.Octets.{IsOctets}
-use Rattle.disk_model.specs.Disk.{Only, Torn}
-use Rattle.disk_model.specs.Surface.{IsImage, IsOpen, Surface, with_range, surface_after, surface_after_call, quiet_surface, write_over}
+use Rattle.disk_model.proofs.Names.{cases_lt, ext_get_or, get_or-take, length-take, All-take, fold-append, DiskCall, IsOctets, Only, Torn, IsImage, IsOpen, Surface, with_range, surface_after, surface_after_call, quiet_surface, write_over}
 use Rattle.disk_model.proofs.Writes.{length-write_over, get_or-write_over_outside, IsOctets-write_over, restored, length-restored, get_or-restored_inside, get_or-restored_outside, IsOctets-restored, torn_by_places, torn_outside}
 
 pub surface_after-push : (first : List ℕ) (calls : List DiskCall) (call : DiskCall) → surface_after first (calls ++ call ∷ []) ≡ surface_after_call (surface_after first calls) call

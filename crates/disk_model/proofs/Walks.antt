@@ -1,12 +1,8 @@
 -- A step that the walks of `src/past.rt` share. Assumes `Logic`.
 use Rattle.std.proofs.Common.{List, [], ◌∷◌, refl}
-use seplogic.Ra.Ura.{Ura}
-use mir.Val.{Val, vstruct, vnil}
-use types.Logic.{Logic}
-use types.Kit.{Goal, Step, step, Item, ‵, ◌$◌, fjoin, fpack, feq_i}
-use denote.RattleType.{RattleType, Valss}
-use denote.Steps.{nothing}
+use types.Kit.{◌$◌}
 use denote.Struct.Struct.{Struct, within}
+use Rattle.disk_model.proofs.Names.{Ura, Val, vstruct, vnil, Logic, Goal, Step, step, Item, ‵, fjoin, fpack, feq_i, RattleType, Valss, nothing}
 
 -- a struct that has no field at run time
 abbrev pub none : Val

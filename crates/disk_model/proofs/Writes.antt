@@ -1,11 +1,6 @@
 -- What a write does to the octets of a disk.
 use Rattle.std.proofs.Common.{◌≡◌, inl, inr, ℕ, ◌+◌, ◌-◌, ◌<◌, ◌≤◌, max, List, ◌++◌, length, get_or, take, drop, replicate, Fits, w8, ap, arith, rules}
-use Rattle.std.proofs.lemmas.Bool.{cases_lt}
-use Rattle.std.proofs.lemmas.List.{places, same_lists, ext_get_or}
-use Rattle.std.proofs.lemmas.List.Elements.{All-append, All-take, All-drop, All-from_get_or, All-replicate}
-use Rattle.px_base.specs.Octets.{IsOctets}
-use Rattle.disk_model.specs.Disk.{Torn, Writes}
-use Rattle.disk_model.specs.Surface.{write_over}
+use Rattle.disk_model.proofs.Names.{cases_lt, places, same_lists, ext_get_or, All-append, All-take, All-drop, All-from_get_or, All-replicate, IsOctets, Torn, Writes, write_over}
 
 -- the octets as they are written: filled up with zeros, and then replaced
 pub padded_write : (old : List ℕ) (at : ℕ) (octets : List ℕ) → take at (old ++ replicate (at + length octets - length old) 0) ++ octets ++ drop (at + length octets) (old ++ replicate (at + length octets - length old) 0) ≡ write_over old at octets

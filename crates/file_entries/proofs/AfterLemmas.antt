@@ -1,22 +1,9 @@
 -- What commands keep.
 use Rattle.std.proofs.Common.{◌≡◌, ◌≢◌, ℕ, ◌+◌, ◌≤◌, ◌<◌, Bool, true, false, not, ◌&&◌, List, [], ◌∷◌, ◌++◌, length, refl, ap, sym, ◌∙◌, subst, arith, Option, None, Some, ◌==◌, nat_le, length-append}
-use Rattle.std.specs.Prelude.{find, IsTrue, is_none}
-use Rattle.pfh_items.specs.Faults.{fault_code}
-use Rattle.pfh_items.specs.Stamp.{StampValue}
-use Rattle.std.specs.Option.{option_or}
-use Rattle.std.proofs.lemmas.Bool.Decides.{nat_tests}
-use Rattle.std.proofs.lemmas.List.{length-map}
 use Rattle.std.proofs.lemmas.List.Filters.{length-filter_both, sum_by-filter_both}
 use Rattle.std.proofs.lemmas.List.Folds.{find-append}
-use Rattle.std.proofs.lemmas.List.Sums.{sum_by_push}
-use Rattle.px_base.specs.CallSign.{CallSign, IsCall}
-use Rattle.file_entries.specs.Command.{Command, begin, grow, seal, drop_entry, can_take, has_room, is_good, is_partial, passes, is_allowed, grown, kept_with, sealed, stamp_of, with_more, changed, with_holding, after, after_all, AreAllowed, HasCall, HaveCalls}
-use Rattle.file_entries.specs.Info.{is_complete}
-use Rattle.file_entries.specs.IsStore.{IsStore, FitsLength}
 use Rattle.file_entries.specs.Kept.{KeepsComplete}
-use Rattle.file_entries.specs.Limits.{longest_file, most_entries}
-use Rattle.file_entries.specs.Store.{Entry, Holding, partial, complete, Store, entry_of, blocks_for, blocks_of, new_entry}
-use Rattle.pfh_writer.proofs.StampedLemmas.{length-stamped}
+use Rattle.file_entries.proofs.Names.{find, IsTrue, is_none, fault_code, StampValue, option_or, nat_tests, length-map, sum_by_push, CallSign, IsCall, Command, begin, grow, seal, drop_entry, can_take, has_room, is_good, is_partial, passes, is_allowed, grown, kept_with, sealed, stamp_of, with_more, changed, with_holding, after, after_all, AreAllowed, HasCall, HaveCalls, is_complete, IsStore, FitsLength, longest_file, most_entries, Entry, Holding, partial, complete, Store, entry_of, blocks_for, blocks_of, new_entry, length-stamped}
 use Rattle.file_entries.proofs.EntriesLemmas.{has_number, AreEntries-push, AreEntries-map-changed, AreEntries-filter, HaveCallers-push, HaveCallers-map-changed, HaveCallers-filter, found-caller, found-fits, blocks-map-changed, find-map-changed_other, find-filter_other}
 
 -- ---- what a test tells

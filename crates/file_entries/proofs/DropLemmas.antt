@@ -1,9 +1,6 @@
 -- While no file is given up, each number that was given is that of an entry.
 use Rattle.std.proofs.Common.{◌≡◌, ℕ, ◌+◌, List, [], ◌∷◌, length, arith, length-append}
-use Rattle.std.specs.Prelude.{IsTrue}
-use Rattle.std.proofs.lemmas.List.{length-map}
-use Rattle.file_entries.specs.Command.{AreAllowed, Command, DropsNothing, KeepsFile, after, after_all, begin, changed, drop_entry, grow, grown, is_allowed, seal, sealed}
-use Rattle.file_entries.specs.Store.{Store, new_entry}
+use Rattle.file_entries.proofs.Names.{IsTrue, length-map, AreAllowed, Command, DropsNothing, KeepsFile, after, after_all, begin, changed, drop_entry, grow, grown, is_allowed, seal, sealed, Store, new_entry}
 use Rattle.file_entries.proofs.AfterLemmas.{begin-allowed}
 
 one_kept : (store : Store) (command : Command) → IsTrue (is_allowed store command) → KeepsFile command → length store.entries + 1 ≡ store.next

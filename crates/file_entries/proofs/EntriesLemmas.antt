@@ -1,13 +1,6 @@
 -- Lemmas on lists of entries.
 use Rattle.std.proofs.Common.{◌≡◌, ◌≢◌, ℕ, ◌+◌, ◌≤◌, ◌<◌, Bool, not, List, [], ◌∷◌, ◌++◌, map, filter, refl, sym, subst, arith, None, Some, ◌==◌}
-use Rattle.std.specs.Prelude.{find, sum_by}
-use Rattle.std.proofs.lemmas.Bool.Decides.{nat_tests}
-use Rattle.std.proofs.lemmas.List.Sums.{sum_by-cons}
-use Rattle.px_base.specs.CallSign.{CallSign, IsCall}
-use Rattle.file_entries.specs.Limits.{longest_file}
-use Rattle.file_entries.specs.Store.{Entry, Holding, blocks_for}
-use Rattle.file_entries.specs.IsStore.{AreEntries, FitsLength, HaveCallers}
-use Rattle.file_entries.specs.Command.{changed}
+use Rattle.file_entries.proofs.Names.{find, sum_by, nat_tests, sum_by-cons, CallSign, IsCall, longest_file, Entry, Holding, blocks_for, AreEntries, FitsLength, HaveCallers, changed}
 
 -- whether an entry has this number
 abbrev pub has_number : ℕ → Entry → Bool

@@ -1,23 +1,10 @@
 -- What holds of a store that follows another.
 use Rattle.std.proofs.Common.{◌≡◌, ℕ, ◌≤◌, ◌<◌, not, List, [], ◌∷◌, ◌++◌, length, filter, refl, ap, sym, ◌∙◌, subst, arith, Option, None, Some, inl, inr, ◌==◌, length-append, take}
-use Rattle.std.specs.Prelude.{find, IsTrue, ⊤}
 use Rattle.std.specs.List.{AllByRecursion}
-use Rattle.std.proofs.lemmas.Bool.Decides.{nat_tests, eqb_tells}
-use Rattle.std.proofs.lemmas.List.{drop_at}
-use Rattle.std.proofs.lemmas.List.Elements.{All-append, All-drop, All-from_recursion, All-nil, All-take, recursion_from_All}
 use Rattle.std.proofs.lemmas.Option.{same_Some}
-use Rattle.px_base.specs.CallSign.{CallSign, IsCall}
-use Rattle.px_base.specs.Octets.{IsOctets}
-use Rattle.file_journal.proofs.Offered.{allowed_append, allowed_first}
-use Rattle.pfh_items.specs.Layout.{header_text}
-use Rattle.pfh_items.specs.Stamp.{StampValue, stamped}
-use Rattle.pfh_items.proofs.Offered.{octets_as_body}
 use Rattle.pfh_writer.proofs.ClientLemmas.{kept_file}
-use Rattle.pfh_writer.proofs.StampedLemmas.{length-stamped}
-use Rattle.file_entries.specs.Command.{Command, DoesAll, begin, grow, seal, drop_entry, is_good, is_allowed, grown, kept_with, sealed, stamp_of, with_holding, with_more, after, after_all, AreAllowed, HasCall, HaveCalls}
 use Rattle.file_entries.specs.Follows.{AreOf, BringsOctets, Continues, Follows, FollowsLaw, HaveFiles, IsFile, IsOf, KeepsEntries, KeepsOthers}
-use Rattle.file_entries.specs.IsStore.{IsStore}
-use Rattle.file_entries.specs.Store.{Entry, Holding, partial, complete, Store, entry_of, new_entry, octets_of}
+use Rattle.file_entries.proofs.Names.{find, IsTrue, ⊤, nat_tests, eqb_tells, drop_at, All-append, All-drop, All-from_recursion, All-nil, All-take, recursion_from_All, CallSign, IsCall, IsOctets, allowed_append, allowed_first, header_text, StampValue, stamped, octets_as_body, length-stamped, Command, DoesAll, begin, grow, seal, drop_entry, is_good, is_allowed, grown, kept_with, sealed, stamp_of, with_holding, with_more, after, after_all, AreAllowed, HasCall, HaveCalls, IsStore, Entry, Holding, partial, complete, Store, entry_of, new_entry, octets_of}
 use Rattle.file_entries.proofs.AfterLemmas.{after-IsStore, after-same, after_all-IsStore, after_all-KeepsComplete, begin-allowed, find-push, found-passes, good-fault, may-come, number_of}
 use Rattle.file_entries.proofs.EntriesLemmas.{find-map-changed, find_past, found-caller, found-fits, has_number}
 use Rattle.file_entries.proofs.GrowLemmas.{AreAllowed-append, AreAllowed-first, after_all-append}

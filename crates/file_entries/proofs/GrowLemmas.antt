@@ -1,13 +1,8 @@
 -- Octets that become held, one block after another.
 use Rattle.std.proofs.Common.{◌≡◌, ℕ, suc, zero, ◌⊎◌, inl, inr, ◌+◌, ◌≤◌, ◌<◌, ◌==◌, Bool, true, false, ◌&&◌, ◌||◌, List, [], ◌∷◌, ◌++◌, length, map, take, drop, refl, ap, sym, ◌∙◌, subst, arith, Option, Some, ◌*◌, nat_le, length-append, length-drop, append_assoc}
-use Rattle.std.specs.Prelude.{IsTrue}
 use Rattle.std.proofs.lemmas.Bool.{eq-eqb, le-leb}
-use Rattle.std.proofs.lemmas.Bool.Decides.{nat_tests}
-use Rattle.std.proofs.lemmas.List.{length-take-le, append-nil}
 use Rattle.std.proofs.Math.Seq.{take-add}
-use Rattle.file_journal.proofs.Offered.{after_all_append, allowed_append, allowed_first, allowed_split}
-use Rattle.file_entries.specs.Command.{Command, IsAllowed, grow, can_take, passes, is_allowed, grown, changed, with_holding, with_more, after, after_all, AreAllowed, grows, last_grow}
-use Rattle.file_entries.specs.Store.{Entry, Holding, partial, complete, Store, entry_of}
+use Rattle.file_entries.proofs.Names.{IsTrue, nat_tests, length-take-le, append-nil, after_all_append, allowed_append, allowed_first, allowed_split, Command, IsAllowed, grow, can_take, passes, is_allowed, grown, changed, with_holding, with_more, after, after_all, AreAllowed, grows, last_grow, Entry, Holding, partial, complete, Store, entry_of}
 use Rattle.file_entries.proofs.EntriesLemmas.{find-map-changed}
 
 -- ---- two changes are one

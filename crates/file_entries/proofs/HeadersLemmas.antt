@@ -1,17 +1,10 @@
 -- The header of a file that keeps all rules.
 use Rattle.std.proofs.Common.{◌≡◌, ℕ, ◌==◌, ◌<◌, ◌≤◌, List, [], ◌∷◌, ◌++◌, length, get_or, Bool, true, false, cond, Option, None, Some, refl, sym, ap, ◌∙◌, subst, arith}
-use Rattle.std.specs.Prelude.{IfNone, IsSome}
-use Rattle.std.proofs.lemmas.List.Elements.{All-get_or}
 use Rattle.px_base.specs.Numbers.{le16}
-use Rattle.px_base.specs.Octets.{IsOctets}
-use Rattle.pfh_items.specs.Faults.{FitsFile, IsFaultless, content_of, fault_code, items_with}
-use Rattle.pfh_items.specs.Layout.{AreItems, FileText, HeaderText, HeaderValue, IsItem, ItemValue, header_text}
-use Rattle.pfh_items.proofs.Offered.{file_parts-text, first_fault-text, HeaderText-FileText, item_at, no_fault}
 use Rattle.pfh_reader.proofs.ClaimsLemmas.{content_of-items_with}
 use Rattle.pfh_reader.proofs.FaultLemmas.{faultless}
-use Rattle.pfh_writer.specs.Short.{HasEachOnce}
-use Rattle.pfh_writer.proofs.StampedLemmas.{no_fault-code}
 use Rattle.file_entries.specs.Headers.{IsHeaderOf, IsWholeHeader, body_octets, header_items, header_octets, parts_or_none}
+use Rattle.file_entries.proofs.Names.{IfNone, IsSome, All-get_or, IsOctets, FitsFile, IsFaultless, content_of, fault_code, items_with, AreItems, FileText, HeaderText, HeaderValue, IsItem, ItemValue, header_text, file_parts-text, first_fault-text, HeaderText-FileText, item_at, no_fault, HasEachOnce, no_fault-code}
 
 -- ---- what is computed of a file with these parts
 

@@ -1,10 +1,6 @@
 -- What is told of an entry, and the tests of it.
 use Rattle.std.proofs.Common.{◌≡◌, ℕ, ◌≤◌, length, refl, sym, subst, arith, Option, None, Some}
-use Rattle.std.specs.Option.{option_map}
-use Rattle.file_entries.specs.declared.info.Info.{Info}
-use Rattle.file_entries.specs.Info.{info_of}
-use Rattle.file_entries.specs.IsStore.{FitsLength, IsStore}
-use Rattle.file_entries.specs.Store.{Entry, Holding, Store, complete, partial, entry_of, octets_of}
+use Rattle.file_entries.proofs.Names.{option_map, Info, info_of, FitsLength, IsStore, Entry, Holding, Store, complete, partial, entry_of, octets_of}
 use Rattle.file_entries.proofs.EntriesLemmas.{found-fits}
 
 -- what is told of an entry that holds no more than its file has

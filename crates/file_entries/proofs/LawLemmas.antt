@@ -1,10 +1,6 @@
 -- The laws of the commands.
 use Rattle.std.proofs.Common.{◌≡◌, ℕ, ◌≤◌, ◌<◌, List, [], ◌∷◌, arith, None}
-use Rattle.std.specs.Prelude.{IsTrue}
-use Rattle.std.proofs.lemmas.Bool.Decides.{nat_tests}
-use Rattle.file_entries.specs.Command.{Command, begin, is_allowed, after, after_all, AreAllowed}
-use Rattle.file_entries.specs.IsStore.{IsStore}
-use Rattle.file_entries.specs.Store.{Store, empty_store, entry_of}
+use Rattle.file_entries.proofs.Names.{IsTrue, nat_tests, Command, begin, is_allowed, after, after_all, AreAllowed, IsStore, Store, empty_store, entry_of}
 use Rattle.file_entries.proofs.AfterLemmas.{after-same, begin-allowed, given-under_way}
 
 pub empty-IsStore : (blocks : ℕ) → 1 ≤ blocks → blocks ≤ 65536 → IsStore (empty_store blocks)

@@ -8,3 +8,4 @@ mod InfoLemmas
 mod LawLemmas
 mod LikeLemmas
 pub mod Offered
+mod Names

@@ -1,18 +1,10 @@
 -- What two stores that are like each other but for the octets have in common.
 use Rattle.std.proofs.Common.{◌≡◌, ℕ, ◌+◌, ◌-◌, ◌==◌, ◌&&◌, Bool, true, false, nat_le, nat_lt, List, [], ◌∷◌, length, Option, None, Some, refl, ap, ap₂, sym, ◌∙◌, subst, arith, inl, inr}
-use Rattle.std.specs.Prelude.{find, sum_by}
-use Rattle.std.proofs.lemmas.Bool.Decides.{eqb_tells}
-use Rattle.std.proofs.lemmas.List.Sums.{sum_by-cons}
 use Rattle.file_entries.specs.Like.{AreLike, IsAsFar, IsEntryLike, IsStoreLike}
 use Rattle.file_entries.specs.Bars.{Bars}
-use Rattle.file_entries.specs.Command.{MayBegin, can_begin}
-use Rattle.file_entries.specs.Info.{IsCompleteIn, IsNextComplete, info_of, is_complete}
-use Rattle.file_entries.specs.Limits.{last_next, longest_file, most_entries}
-use Rattle.file_entries.specs.Store.{Entry, Holding, Store, blocks_for, blocks_of, complete, entry_count, entry_of, free_blocks, octets_of, partial}
 use Rattle.file_entries.specs.declared.begin_bar.BeginBar.{BeginBar}
 use Rattle.file_entries.specs.declared.begin_bar.BeginBar.TheVariants.{TooLong, TooMany, NumbersGone, NoRoom}
-use Rattle.file_entries.specs.declared.info.Info.{Info}
-use Rattle.px_base.specs.CallSign.{CallSign}
+use Rattle.file_entries.proofs.Names.{find, sum_by, eqb_tells, sum_by-cons, MayBegin, can_begin, IsCompleteIn, IsNextComplete, info_of, is_complete, last_next, longest_file, most_entries, Entry, Holding, Store, blocks_for, blocks_of, complete, entry_count, entry_of, free_blocks, octets_of, partial, Info, CallSign}
 
 -- ---- how far a file has come
 

@@ -1,23 +1,10 @@
 -- What a store's commands do to its disk: what file_journal proves of a state that is kept, at the store's form.
 use Rattle.std.proofs.Common.{◌≡◌, ℕ, ◌+◌, ◌≤◌, Bool, true, false, List, [], ◌++◌, length, Option, refl, sym, ap, subst, arith}
 use Rattle.std.proofs.Math.Nat.{add-zero}
-use Rattle.disk_model.specs.AtDisk.{AtDisk}
-use Rattle.disk_model.specs.declared.disk.Disk.{Ghosts}
 use Rattle.file_journal.specs.AmongReads as among
-use Rattle.file_journal.specs.Calls.{Reads}
 use Rattle.file_journal.specs.Kept as kept
-use Rattle.file_journal.specs.Kept.{IsKept, KeptOn, kept_on}
-use Rattle.file_journal.specs.Layout.{blocks_on}
-use Rattle.file_journal.proofs.Offered.{among_does, among_same, among_then, does_longer, does_none, does_same, does_then, first_all, first_then, held_kept, makes_first, makes_within, puts_among_then, reads_only, same_on}
-use Rattle.file_entries.specs.Command.{AreAllowed, Command, after_all}
-use Rattle.block_entries.specs.PlacedFiles.{store_of}
-use Rattle.block_entries.specs.PlacedLaws.{placed_seen}
-use Rattle.block_entries.specs.PlacedForm.{placed_steps}
-use Rattle.block_entries.specs.Seen.{seen}
-use Rattle.file_entries.specs.Store.{Store}
-use Rattle.file_store.specs.OnDisk.{Does, MakesBetween, after_first, kept_at}
-use Rattle.file_store.specs.State.{IsKnown, IsReady, StandsOn, StoreState, placed_in, store_form, store_on}
-use Rattle.file_store.specs.Working.{CutsOffAmongReads, DoesAmongReads, PutsAmongReads, one_if}
+use Rattle.file_store.specs.Working.{one_if}
+use Rattle.file_store.proofs.Names.{AtDisk, Ghosts, Reads, IsKept, KeptOn, kept_on, blocks_on, among_does, among_same, among_then, does_longer, does_none, does_same, does_then, first_all, first_then, held_kept, makes_first, makes_within, puts_among_then, reads_only, same_on, AreAllowed, Command, after_all, store_of, placed_seen, placed_steps, seen, Store, Does, MakesBetween, after_first, kept_at, IsKnown, IsReady, StandsOn, StoreState, placed_in, store_form, store_on, CutsOffAmongReads, DoesAmongReads, PutsAmongReads}
 
 -- ---- the first of some commands
 

@@ -1,27 +1,7 @@
 -- The end of a file of which all octets came.
 use Rattle.std.proofs.Common.{◌≡◌, ◌==◌, ℕ, ◌+◌, ◌<◌, List, [], ◌∷◌, ◌++◌, length, replicate, Option, None, Some, refl, sym, ◌∙◌, ap, subst, arith, length-append}
-use Rattle.std.specs.Prelude.{IsTrue, is_none, is_some, not}
-use Rattle.std.proofs.lemmas.List.{length-replicate}
-use Rattle.std.specs.Option.{option_map}
-use Rattle.std.proofs.lemmas.Bool.{eq-eqb}
-use Rattle.std.proofs.lemmas.Bool.Decides.{nat_tests}
-use Rattle.block_entries.specs.IsPlaced.{IsPlaced}
-use Rattle.block_entries.specs.Outlined.{outlined_entry}
-use Rattle.block_entries.specs.Placed.{Placed, Seal, placed_of}
-use Rattle.block_entries.specs.PlacedCommand.{is_partial as placed_partial, is_whole}
-use Rattle.block_entries.specs.Seen.{holding_with, octets_in, seen, seen_entry}
-use Rattle.block_entries.specs.TestLaws.{Passes}
-use Rattle.block_entries.proofs.Offered.{entry_seen, found_length}
-use Rattle.file_entries.specs.Faults.{fault_code}
-use Rattle.file_entries.specs.Command.{AreAllowed, after_all, grown, is_allowed, is_good, is_partial, last_grow, passes, with_more}
-use Rattle.block_entries.specs.PlacedFiles.{octets_or_none}
-use Rattle.file_entries.specs.Store.{Entry, Holding, Store, entry_of, holding_of, octets_at, partial}
-use Rattle.file_entries.proofs.Offered.{AreAllowed-append, both-true, find-map-changed, last_grow-after, last_grow-allowed}
-use Rattle.file_journal.specs.Layout.{Blocks}
-use Rattle.file_store.specs.Ending.{IsWhole}
-use Rattle.file_store.specs.OnDisk.{outlined_all}
-use Rattle.file_store.specs.State.{StoreState, placed_in, rest_in, store_in}
-use Rattle.file_store.specs.Upload.{IsWholeWaiting, come_of, ending}
+use Rattle.file_entries.specs.Command.{is_partial}
+use Rattle.file_store.proofs.Names.{IsTrue, is_none, is_some, not, length-replicate, option_map, eq-eqb, nat_tests, IsPlaced, outlined_entry, Placed, Seal, placed_of, is_partial as placed_partial, is_whole, holding_with, octets_in, seen, seen_entry, Passes, entry_seen, found_length, fault_code, AreAllowed, after_all, grown, is_allowed, is_good, last_grow, passes, with_more, octets_or_none, Entry, Holding, Store, entry_of, holding_of, octets_at, partial, AreAllowed-append, both-true, find-map-changed, last_grow-after, last_grow-allowed, Blocks, IsWhole, outlined_all, StoreState, placed_in, rest_in, store_in, IsWholeWaiting, come_of, ending}
 use Rattle.file_store.proofs.TokenLemmas.{file-under}
 
 -- ---- the commands, over a store

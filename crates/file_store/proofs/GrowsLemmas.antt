@@ -1,14 +1,8 @@
 -- What Grows of one file leave of the others, and what memory tells of it then.
 use Rattle.std.proofs.Common.{◌≡◌, ℕ, zero, suc, List, [], ◌∷◌, length, map, replicate, take, drop, refl, sym, ◌∙◌, ap, arith}
-use Rattle.std.specs.Prelude.{find, option_map}
-use Rattle.std.specs.List.{AllByRecursion}
-use Rattle.std.proofs.lemmas.Bool.Decides.{nat_tests}
-use Rattle.std.proofs.lemmas.List.{drop-map, take-map}
+use Rattle.std.specs.Prelude.{option_map}
 use Rattle.std.proofs.lemmas.Simd.{splat_is_map}
-use Rattle.file_entries.specs.Command.{Command, changed, grow, grows}
-use Rattle.file_entries.specs.Store.{Entry, Holding}
-use Rattle.file_entries.proofs.Offered.{has_number}
-use Rattle.file_store.specs.OnDisk.{outlined_all, outlined_command}
+use Rattle.file_store.proofs.Names.{find, AllByRecursion, nat_tests, drop-map, take-map, Command, changed, grow, grows, Entry, Holding, has_number, outlined_all, outlined_command}
 
 -- ---- Grows of one number
 

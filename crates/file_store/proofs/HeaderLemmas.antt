@@ -1,15 +1,12 @@
 -- What tells that octets are a header in which each mandatory item stands.
 use Rattle.std.proofs.Common.{◌≡◌, ℕ, List, [], ◌∷◌, Bool, true, refl, sym, ◌∙◌, ap, subst}
 use Rattle.std.specs.Prelude.{if◌then◌else◌}
-use Rattle.std.specs.List.{AllByRecursion, list_all}
-use Rattle.std.proofs.lemmas.Bool.{and_from, eq-eqb}
-use Rattle.file_entries.specs.Headers.{IsWholeHeader, header_items, parts_or_none}
-use Rattle.pfh_items.specs.Faults.{StandsOnce, has_none, is_one_of_len, items_with}
 use Rattle.pfh_items.specs.Layout.{HeaderText, ItemValue}
 use Rattle.pfh_items.specs.Table.{mandatory_items}
 use Rattle.pfh_items.specs.declared.table.MandatoryItem.{MandatoryItem}
 use Rattle.pfh_items.proofs.Offered.{file_parts-text, HeaderText-FileText, once_each}
 use Rattle.pfh_writer.specs.Short.{HasEachOnce}
+use Rattle.file_store.proofs.Names.{AllByRecursion, list_all, and_from, eq-eqb, IsWholeHeader, header_items, parts_or_none, StandsOnce, has_none, is_one_of_len, items_with}
 
 -- whether one item of an id stands with its length, where one was found already or not, and these are left
 abbrev pub once_still : Bool → ℕ → List ItemValue → Bool

@@ -1,18 +1,7 @@
 -- Octets that come and those that wait become held.
 use Rattle.std.proofs.Common.{◌≡◌, ℕ, zero, suc, ◌+◌, ◌-◌, ◌*◌, ◌/◌, ◌<◌, ◌≤◌, List, [], ◌∷◌, ◌++◌, length, replicate, take, drop, Option, Some, refl, sym, ◌∙◌, ap, subst, arith, inl, zero-add, length-append, length-drop, drop-drop}
-use Rattle.std.specs.Option.{option_map}
 use Rattle.std.proofs.Math.Seq.{drop-append-add, take-append-add}
-use Rattle.std.proofs.lemmas.List.{length-replicate, length-take-le, map-append}
-use Rattle.disk_model.specs.declared.disk.Disk.{Ghosts}
-use Rattle.block_entries.specs.IsPlaced.{IsPlaced}
-use Rattle.block_entries.specs.PlacedFiles.{ChangesRest, octets_or_none, rest_with}
-use Rattle.file_entries.specs.Command.{AreAllowed, Command, after, after_all, grow, grown, grows, whole_grows, with_more}
-use Rattle.file_entries.specs.Store.{Store, entry_of, partial}
-use Rattle.file_entries.proofs.Offered.{after_all-append, find-map-changed, grows-allowed}
-use Rattle.file_journal.specs.Layout.{blocks_on}
-use Rattle.file_store.specs.OnDisk.{DoesTo, after_first, outlined_all, outlined_command}
-use Rattle.file_store.specs.State.{IsKnown, IsReady, StoreState, placed_in, rest_in, store_in, store_on}
-use Rattle.file_store.specs.Upload.{FillsBlock, FitsBytes, FitsWaiting, waiting_with}
+use Rattle.file_store.proofs.Names.{option_map, length-replicate, length-take-le, map-append, Ghosts, IsPlaced, ChangesRest, octets_or_none, rest_with, AreAllowed, Command, after, after_all, grow, grown, grows, whole_grows, with_more, Store, entry_of, partial, after_all-append, find-map-changed, grows-allowed, blocks_on, DoesTo, after_first, outlined_all, outlined_command, IsKnown, IsReady, StoreState, placed_in, rest_in, store_in, store_on, FillsBlock, FitsBytes, FitsWaiting, waiting_with}
 use Rattle.file_store.proofs.DoesLemmas.{Does-longer, Does-moved, Does-none, Does-same, Does-then, after_first-then}
 use Rattle.file_store.proofs.OnLemmas.{in_parked, stands_parked}
 use Rattle.file_store.proofs.TokenLemmas.{seen-partial}

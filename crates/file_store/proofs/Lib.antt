@@ -20,3 +20,4 @@ mod ToldLemmas
 mod TurnLemmas
 mod UploadLemmas
 mod ZerosLemmas
+mod Names

@@ -1,23 +1,8 @@
 -- A store on its disk, and the same as far as memory tells.
 use Rattle.std.proofs.Common.{◌≡◌, List, [], ◌∷◌, ℕ, Option, None, Some, inl, inr, refl, sym, ◌∙◌, ap, subst}
-use Rattle.disk_model.specs.Disk.{IsTold}
-use Rattle.disk_model.specs.declared.disk.Disk.{Ghosts}
-use Rattle.block_entries.specs.IsPlaced.{KeepsSeals}
-use Rattle.block_entries.specs.Outlined.{outlined}
 use Rattle.file_entries.specs.Like.{AreLike, IsAsFar, IsStoreLike}
-use Rattle.block_entries.specs.Placed.{PlacedStore}
-use Rattle.block_entries.specs.PlacedFiles.{store_of}
-use Rattle.block_entries.specs.PlacedForm.{placed_steps}
-use Rattle.block_entries.specs.Seen.{seen}
-use Rattle.block_entries.proofs.Offered.{kept_seals, seen_like, seen_store}
-use Rattle.file_journal.specs.Calls.{TellsAlike}
-use Rattle.file_journal.specs.Kept.{StandsAt}
-use Rattle.file_journal.specs.Layout.{blocks_on}
 use Rattle.file_journal.specs.Position.{Position}
-use Rattle.file_journal.proofs.Offered.{knew, knows_on}
-use Rattle.file_entries.specs.IsStore.{IsStore}
-use Rattle.file_entries.specs.Store.{Entry, Holding, Store, complete, partial}
-use Rattle.file_store.specs.State.{IsKnown, IsReady, StandsOn, StoreState, placed_in, store_form, store_in, store_on}
+use Rattle.file_store.proofs.Names.{IsTold, Ghosts, KeepsSeals, outlined, PlacedStore, store_of, placed_steps, seen, kept_seals, seen_like, seen_store, TellsAlike, StandsAt, blocks_on, knew, knows_on, IsStore, Entry, Holding, Store, complete, partial, IsKnown, IsReady, StandsOn, StoreState, placed_in, store_form, store_in, store_on}
 use Rattle.file_store.proofs.ZerosLemmas.{seen_zeros}
 
 -- a store is like itself

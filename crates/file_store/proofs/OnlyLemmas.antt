@@ -1,14 +1,7 @@
 -- What is the same of a store where the file of one number alone changed.
 use Rattle.std.proofs.Common.{◌≡◌, ℕ, List, [], ◌∷◌, take, Option, None, Some, inl, inr, refl, sym, ◌∙◌, ap, subst}
-use Rattle.std.specs.Prelude.{IsTrue, option_map}
-use Rattle.std.proofs.lemmas.Bool.Decides.{eqb_tells}
-use Rattle.file_entries.specs.Command.{Command, after, after_all, grown, with_holding}
-use Rattle.file_entries.specs.Info.{is_complete}
-use Rattle.file_entries.specs.Kept.{KeepsComplete}
-use Rattle.file_entries.specs.Store.{Entry, Holding, Store, entry_of, partial}
-use Rattle.file_entries.proofs.Offered.{find-map-changed_other, never-both}
-use Rattle.file_store.specs.Kept.{ChangesEntry, OnlyChanges}
-use Rattle.file_store.specs.OnDisk.{after_first, outlined_all}
+use Rattle.std.specs.Prelude.{option_map}
+use Rattle.file_store.proofs.Names.{IsTrue, eqb_tells, Command, after, after_all, grown, with_holding, is_complete, KeepsComplete, Entry, Holding, Store, entry_of, partial, find-map-changed_other, never-both, ChangesEntry, OnlyChanges, after_first, outlined_all}
 use Rattle.file_store.proofs.GrowsLemmas.{AreGrows, IsGrow, find-held, outlined-are, take-are}
 
 -- ---- changes of one number

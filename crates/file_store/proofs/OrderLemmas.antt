@@ -1,19 +1,10 @@
 -- How the end of a file goes is how the call goes that seals it.
 use Rattle.std.proofs.Common.{◌≡◌, inl, inr, ℕ, Bool, false, true, List, [], ◌∷◌, Option, Result, Ok, Err, IsErrOf, refl, ap}
-use Rattle.block_entries.specs.PlacedFiles.{store_of}
-use Rattle.disk_model.specs.AtDisk.{AtDisk, at}
-use Rattle.disk_model.specs.declared.disk.Disk.{Ghosts}
-use Rattle.disk_model.specs.declared.disk.DiskFault.{DiskFault}
-use Rattle.file_entries.specs.Command.{Command, last_grow}
-use Rattle.file_store.specs.Answers.{seal_commands, seal_missed}
-use Rattle.file_store.specs.Ending.{EndsFile, EndsInOrder}
 use Rattle.file_store.specs.Sealing.{SealsFile, commands_with}
-use Rattle.file_store.specs.State.{IsKnown, StoreState, store_on}
-use Rattle.file_store.specs.Upload.{Upload, ending, waiting}
-use Rattle.file_store.specs.Working.{DoesAmongReads}
 use Rattle.file_store.specs.declared.end.End.TheVariants as end
 use Rattle.file_store.specs.declared.refusals.SealRefusal.{SealRefusal}
 use Rattle.file_store.specs.declared.refusals.SealRefusal.TheVariants as seal_refusal
+use Rattle.file_store.proofs.Names.{store_of, AtDisk, at, Ghosts, DiskFault, Command, last_grow, seal_commands, seal_missed, EndsFile, EndsInOrder, IsKnown, StoreState, store_on, Upload, ending, waiting, DoesAmongReads}
 use Rattle.file_store.proofs.DoesLemmas.{among-at, among-parked, among-same, Does-moved, Does-same}
 
 module _ {D : Type 0} (g : Ghosts D) where

@@ -1,34 +1,12 @@
 -- What a change of the entries makes of what memory tells.
 use Rattle.std.proofs.Common.{◌≡◌, ℕ, ◌+◌, ◌≤◌, ◌<◌, Bool, not, [], ◌∷◌, length, replicate, nat_le, nat_lt, Option, None, Some, Result, Ok, Err, IsErr, OnOk, OnErr, inl, inr, refl, sym, ◌∙◌, ap, subst, arith}
-use Rattle.std.specs.Prelude.{IfErr, IfNone, IsErrAnd, IsTrue, is_some, ◌&&◌}
-use Rattle.std.proofs.lemmas.Bool.{and_parts, eqb-true, ltb-true}
-use Rattle.std.proofs.lemmas.Bool.Decides.{nat_tests}
-use Rattle.std.proofs.lemmas.List.{length-map}
-use Rattle.disk_model.specs.declared.disk.Disk.{Ghosts}
-use Rattle.block_entries.specs.IsPlaced.{IsPlaced}
-use Rattle.block_entries.specs.KeptLaws.{blocks_seen, rooms_files, sum_map}
-use Rattle.block_entries.specs.Outlined.{outlined, outlined_entry}
-use Rattle.block_entries.specs.Placed.{Placed, PlacedStore, Seal}
-use Rattle.block_entries.specs.PlacedCommand.{can_grow, is_partial}
-use Rattle.block_entries.specs.PlacedFiles.{EntriesState, IsLowest, KeepsRests, PlacedFiles, lacks_octets, store_of}
-use Rattle.block_entries.specs.Seen.{seen, seen_entry}
-use Rattle.block_entries.specs.TestLaws.{Grows, Passes}
-use Rattle.block_entries.proofs.Offered.{outlined_grown}
+use Rattle.std.specs.Prelude.{◌&&◌}
 use Rattle.file_entries.specs.Bars.{Bars}
-use Rattle.file_entries.specs.Command.{MayBegin, after, after_all, grow}
-use Rattle.file_entries.specs.Store.{Entry, blocks_for, blocks_of, entry_count, free_blocks}
 use Rattle.file_entries.specs.declared.begin_bar.BeginBar.{BeginBar}
 use Rattle.file_entries.specs.declared.begin_bar.BeginBar.TheVariants.{TooLong, TooMany, NumbersGone, NoRoom}
-use Rattle.file_entries.proofs.Offered.{both-true}
-use Rattle.file_journal.specs.Layout.{Blocks}
-use Rattle.file_store.specs.Answers.{RefusesBegin}
-use Rattle.file_store.specs.Changes.{MakesOf, MayMake, waiting_in}
-use Rattle.file_store.specs.OnDisk.{Does, DoesTo, after_first, outlined_all}
 use Rattle.file_store.specs.Refusals.{refusal_of_bar}
-use Rattle.file_store.specs.State.{StandsOn, StoreState, placed_in, rest_in, store_in}
-use Rattle.file_store.specs.Upload.{FillsBlock}
 use Rattle.file_store.specs.declared.change.EntriesChange.TheVariants as change
-use Rattle.file_store.specs.declared.refusals.BeginRefusal.{BeginRefusal}
+use Rattle.file_store.proofs.Names.{IfErr, IfNone, IsErrAnd, IsTrue, is_some, and_parts, eqb-true, ltb-true, nat_tests, length-map, Ghosts, IsPlaced, blocks_seen, rooms_files, sum_map, outlined, outlined_entry, Placed, PlacedStore, Seal, can_grow, is_partial, EntriesState, IsLowest, KeepsRests, PlacedFiles, lacks_octets, store_of, seen, seen_entry, Grows, Passes, outlined_grown, MayBegin, after, after_all, grow, Entry, blocks_for, blocks_of, entry_count, free_blocks, both-true, Blocks, RefusesBegin, MakesOf, MayMake, waiting_in, Does, DoesTo, after_first, outlined_all, StandsOn, StoreState, placed_in, rest_in, store_in, FillsBlock, BeginRefusal}
 use Rattle.file_store.proofs.TokenLemmas.{IsFileUnder, file-under}
 use Rattle.file_store.proofs.TurnLemmas.{waits-length}
 

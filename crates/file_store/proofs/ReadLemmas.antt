@@ -1,19 +1,6 @@
 -- What is read of a complete file.
 use Rattle.std.proofs.Common.{◌≡◌, ℕ, ◌≤◌, List, length, replicate, Option, None, Some, Result, Ok, Err, OnOk, refl, sym, ◌∙◌, ap, subst}
-use Rattle.std.specs.Prelude.{IsSomeAnd, IsTrue, is_some}
-use Rattle.std.proofs.lemmas.List.{length-replicate}
-use Rattle.std.specs.Option.{option_map}
-use Rattle.block_entries.specs.Outlined.{outlined_entry}
-use Rattle.block_entries.specs.Placed.{Placed, Seal, placed_of}
-use Rattle.block_entries.specs.PlacedFiles.{IsSealedIn}
-use Rattle.block_entries.specs.Sealed.{Sealed, octets_given}
-use Rattle.block_entries.specs.Seen.{holding_with, octets_in, seen}
-use Rattle.block_entries.proofs.Offered.{entry_seen, outlined_found, outlined_sealed}
-use Rattle.disk_model.specs.Disk.{FillsRoom}
-use Rattle.file_journal.specs.Layout.{Blocks}
-use Rattle.file_entries.specs.Info.{IsCompleteIn}
-use Rattle.file_entries.specs.Store.{Entry, entry_of, holding_of, octets_at, octets_of}
-use Rattle.file_store.specs.State.{StoreState, placed_in, store_in}
+use Rattle.file_store.proofs.Names.{IsSomeAnd, IsTrue, is_some, length-replicate, option_map, outlined_entry, Placed, Seal, placed_of, IsSealedIn, Sealed, octets_given, holding_with, octets_in, seen, entry_seen, outlined_found, outlined_sealed, FillsRoom, Blocks, IsCompleteIn, Entry, entry_of, holding_of, octets_at, octets_of, StoreState, placed_in, store_in}
 
 -- a complete file is sealed
 module _ (self : StoreState) (number : ℕ) (whole : IsCompleteIn (store_in self) number) where

@@ -1,13 +1,7 @@
 -- A complete entry stays through commands.
 use Rattle.std.proofs.Common.{◌≡◌, inl, inr, ℕ, zero, suc, List, [], ◌∷◌, length, subst, Some}
-use Rattle.std.specs.Prelude.{IsTrue}
-use Rattle.std.proofs.lemmas.Bool.Decides.{eqb_tells}
-use Rattle.file_entries.specs.Command.{AreAllowed, Command, after, begin, drop_entry, grow, has_room, is_allowed, is_good, is_partial, seal}
-use Rattle.file_entries.specs.Info.{is_complete}
-use Rattle.file_entries.specs.Store.{Entry, Store, entry_of}
-use Rattle.file_entries.proofs.Offered.{after-other, find-append_found, found-passes, good-partial, grow-allowed, has_number, never-both, partial-held, room-partial}
-use Rattle.file_store.specs.Laws.{ReceiptLaw}
-use Rattle.file_store.specs.OnDisk.{after_first}
+use Rattle.file_entries.specs.Command.{is_partial}
+use Rattle.file_store.proofs.Names.{IsTrue, eqb_tells, AreAllowed, Command, after, begin, drop_entry, grow, has_room, is_allowed, is_good, seal, is_complete, Entry, Store, entry_of, after-other, find-append_found, found-passes, good-partial, grow-allowed, has_number, never-both, partial-held, room-partial, ReceiptLaw, after_first}
 
 -- a command that is allowed leaves a complete entry as it is
 stays_one : (store : Store) (command : Command) (number : ℕ) (e : Entry) → IsTrue (is_allowed store command) → entry_of store number ≡ Some e → IsTrue (is_complete e.holding)

@@ -1,9 +1,8 @@
 -- The recovery of a store, said as the store says it.
 use Rattle.std.proofs.Common.{◌≡◌, ◌↔◌, ℕ, List, Option, Result, Err, IsErrOf, sym, ◌∙◌, ap}
-use Rattle.file_journal.proofs.Offered.{told_weaker}
-use Rattle.file_store.specs.Recovery.{RefusesRecovery}
 use Rattle.file_journal.specs.declared.faults.StoreFault.{StoreFault}
 use Rattle.file_journal.specs.declared.faults.StoreFault.TheVariants as fault
+use Rattle.file_store.proofs.Names.{told_weaker, RefusesRecovery}
 
 -- a refusal of the kept state is one of the store
 pub recovery-refuses : {T U : Type 0} (blocks : ℕ) (content : Option (List ℕ)) (e : StoreFault) (result : Result U StoreFault) → result ≡ Err e

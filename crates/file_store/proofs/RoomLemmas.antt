@@ -1,13 +1,6 @@
 -- While no file was ever given up, the store's journal has room for the records of further commands.
 use Rattle.std.proofs.Common.{◌≡◌, ◌+◌, ℕ, List, length, Some, arith}
-use Rattle.std.proofs.lemmas.List.{length-map}
-use Rattle.disk_model.specs.declared.disk.Disk.{Ghosts}
-use Rattle.block_entries.specs.Seen.{seen_entry}
-use Rattle.block_entries.proofs.Offered.{room_for_commands}
-use Rattle.file_entries.specs.Command.{AreAllowed, Command, DropsNothing}
-use Rattle.file_journal.specs.Kept.{HasRoomFor}
-use Rattle.file_journal.specs.Layout.{Blocks, blocks_on}
-use Rattle.file_store.specs.State.{IsReady, StoreState, placed_in, store_form, store_on}
+use Rattle.file_store.proofs.Names.{length-map, Ghosts, seen_entry, room_for_commands, AreAllowed, Command, DropsNothing, HasRoomFor, Blocks, blocks_on, IsReady, StoreState, placed_in, store_form, store_on}
 
 -- each number that was given is that of an entry, and none of these commands gives one up
 pub room_for : {D : Type 0} (g : Ghosts D) (self : StoreState) (disk : D) → IsReady g self disk → (octets : List ℕ) → g.content disk ≡ Some octets

@@ -1,38 +1,9 @@
 -- How the parts of the end of a file come together.
 use Rattle.std.proofs.Common.{◌≡◌, ◌≢◌, inl, inr, ℕ, ◌+◌, ◌≤◌, Bool, true, false, List, [], ◌∷◌, ◌++◌, length, Option, None, Some, Result, Ok, Err, IsErr, OnOk, OnErr, refl, sym, ◌∙◌, ap, subst, arith, zero-add}
-use Rattle.std.specs.Prelude.{IfSome, IsSome, IsTrue, is_some, replicate}
-use Rattle.std.specs.Option.{option_map}
-use Rattle.std.proofs.lemmas.List.{append-nil}
-use Rattle.block_entries.specs.Checking.{ChecksFile, HasFault, IsFaultCode, IsSealable}
-use Rattle.block_entries.specs.IsPlaced.{IsPlaced}
-use Rattle.block_entries.specs.Outlined.{outlined, outlined_entry}
-use Rattle.block_entries.specs.Placed.{Placed, PlacedStore, Seal, placed_of}
-use Rattle.block_entries.specs.PlacedCommand.{is_partial, is_whole, sealed, with_sealed, without_file}
-use Rattle.block_entries.specs.PlacedFiles.{Becomes, KeepsRests, PlacedFiles, octets_or_none, rest_of, store_of}
-use Rattle.block_entries.specs.Seen.{octets_in, stamp_at}
-use Rattle.block_entries.specs.TestLaws.{Passes, TakesSeal}
 use Rattle.block_entries.specs.declared.file_check.CheckedHeader.{CheckedHeader}
-use Rattle.block_entries.proofs.Offered.{changed_is, changed_leaves, outlined_found, without_is, without_leaves}
-use Rattle.disk_model.specs.AtDisk.{at}
-use Rattle.disk_model.specs.Disk.{IsTold}
-use Rattle.disk_model.specs.declared.disk.Disk.{Ghosts}
-use Rattle.disk_model.specs.declared.disk.DiskFault.{DiskFault}
-use Rattle.file_journal.specs.AmongReads.{one_if}
-use Rattle.file_journal.specs.Calls.{Reads}
-use Rattle.file_journal.specs.Layout.{Blocks, blocks_on}
-use Rattle.file_journal.proofs.Offered.{reads_same}
-use Rattle.file_entries.specs.Command.{Command, after_all, drop_entry, grow, last_grow, seal}
-use Rattle.file_entries.specs.Faults.{fault_code}
-use Rattle.file_entries.specs.Info.{IsCompleteIn, is_complete}
-use Rattle.file_entries.specs.Store.{Entry, Holding, Store, entry_of}
-use Rattle.file_store.specs.Ending.{EndsFile, EndsInOrder, IsSealedAt, LeavesOthers}
-use Rattle.file_store.specs.Kept.{KeepsOtherFiles}
-use Rattle.file_store.specs.OnDisk.{Does, DoesTo, outlined_all}
-use Rattle.file_store.specs.State.{IsKnown, IsReady, StandsOn, StoreState, placed_in, rest_in, store_in, store_on}
-use Rattle.file_store.specs.Upload.{Holds, IsWholeWaiting, Upload, come_of, ending}
-use Rattle.file_store.specs.Working.{DoesAmongReads}
 use Rattle.file_store.specs.declared.end.End.{End}
 use Rattle.file_store.specs.declared.end.End.TheVariants as end
+use Rattle.file_store.proofs.Names.{IfSome, IsSome, IsTrue, is_some, replicate, option_map, append-nil, ChecksFile, HasFault, IsFaultCode, IsSealable, IsPlaced, outlined, outlined_entry, Placed, PlacedStore, Seal, placed_of, is_partial, is_whole, sealed, with_sealed, without_file, Becomes, KeepsRests, PlacedFiles, octets_or_none, rest_of, store_of, octets_in, stamp_at, Passes, TakesSeal, changed_is, changed_leaves, outlined_found, without_is, without_leaves, at, IsTold, Ghosts, DiskFault, one_if, Reads, Blocks, blocks_on, reads_same, Command, after_all, drop_entry, grow, last_grow, seal, fault_code, IsCompleteIn, is_complete, Entry, Holding, Store, entry_of, EndsFile, EndsInOrder, IsSealedAt, LeavesOthers, KeepsOtherFiles, Does, DoesTo, outlined_all, IsKnown, IsReady, StandsOn, StoreState, placed_in, rest_in, store_in, store_on, Holds, IsWholeWaiting, Upload, come_of, ending, DoesAmongReads}
 use Rattle.file_store.proofs.DoesLemmas.{among-at, among-same, among-then, does-among, Does-longer, Does-same, reads-only}
 use Rattle.file_store.proofs.EndLemmas.{mid-come, mid-is, mid-partial, mid-under, mid-whole, sealing-allowed}
 use Rattle.file_store.proofs.GrowsLemmas.{AreGrows}

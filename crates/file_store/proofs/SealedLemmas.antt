@@ -1,21 +1,9 @@
 -- A file that is sealed.
 use Rattle.std.proofs.Common.{◌≡◌, ℕ, List, [], ◌∷◌, ◌++◌, Option, None, Some, Ok, refl, sym, ◌∙◌, ap, arith}
-use Rattle.std.specs.Prelude.{is_some}
-use Rattle.std.specs.Option.{option_map}
-use Rattle.disk_model.specs.declared.disk.Disk.{Ghosts}
-use Rattle.file_journal.specs.Layout.{blocks_on}
-use Rattle.file_journal.proofs.Offered.{told_weaker}
-use Rattle.file_entries.specs.Faults.{fault_code}
 use Rattle.file_entries.specs.Stamp.{stamped}
-use Rattle.file_entries.specs.Command.{after, after_all, last_grow, seal, sealed}
-use Rattle.block_entries.specs.PlacedFiles.{octets_or_none}
-use Rattle.file_entries.specs.Store.{Entry, Store, complete, entry_of, octets_at, partial}
-use Rattle.file_entries.proofs.Offered.{after_all-append, find-map-changed}
-use Rattle.file_store.specs.Ending.{EndsFile}
-use Rattle.file_store.specs.Laws.{IsKeptInEach, IsKeptOn}
-use Rattle.file_store.specs.State.{IsKnown, StoreState, rest_in, store_on}
-use Rattle.file_store.specs.Upload.{Holds, Upload, come_of, ending, entry_for, held_whole, kept_file, octets_come, sealing, upload_stamp}
+use Rattle.file_entries.specs.Command.{sealed}
 use Rattle.file_store.specs.declared.end.End.TheVariants as end
+use Rattle.file_store.proofs.Names.{is_some, option_map, Ghosts, blocks_on, told_weaker, fault_code, after, after_all, last_grow, seal, octets_or_none, Entry, Store, complete, entry_of, octets_at, partial, after_all-append, find-map-changed, EndsFile, IsKeptInEach, IsKeptOn, IsKnown, StoreState, rest_in, store_on, Holds, Upload, come_of, ending, entry_for, held_whole, kept_file, octets_come, sealing, upload_stamp}
 use Rattle.file_store.proofs.EndLemmas.{entry-then, under, under-on}
 use Rattle.file_store.proofs.OnLemmas.{known_back, told_known}
 use Rattle.file_store.proofs.TokenLemmas.{stands-each}

@@ -1,20 +1,10 @@
 -- What stands through a recovery of the store and the calls that come behind it, of which the disk may have cut off the
 -- last.
 use Rattle.std.proofs.Common.{◌≡◌, ℕ, List, IfSome}
-use Rattle.disk_model.specs.AtDisk.{at}
-use Rattle.disk_model.specs.declared.disk.Disk.{Ghosts}
-use Rattle.block_entries.specs.PlacedLaws.{placed_seen}
-use Rattle.file_journal.specs.AmongReads.{among_reads}
-use Rattle.file_journal.specs.Calls.{Leaves, TellsAlike}
 use Rattle.file_journal.specs.Recovery.{IsSyncedFirst}
 use Rattle.file_journal.specs.Through.{StandsThrough}
 use Rattle.file_journal.specs.Walk.{state}
-use Rattle.file_journal.proofs.Offered.{stands_through}
-use Rattle.file_entries.specs.Command.{Command}
-use Rattle.file_store.specs.OnDisk.{kept_at}
-use Rattle.file_store.specs.Recovery.{StandsAlike}
-use Rattle.file_store.specs.State.{StoreState, standing_of, store_form, store_on}
-use Rattle.file_store.specs.Working.{CutsOffAmongReads}
+use Rattle.file_store.proofs.Names.{at, Ghosts, placed_seen, among_reads, Leaves, TellsAlike, stands_through, Command, kept_at, StandsAlike, StoreState, standing_of, store_form, store_on, CutsOffAmongReads}
 
 module _ {D : Type 0} (g : Ghosts D) (failed : Type 0) (blocks : ℕ) (old mid now : D)
     (start new : StoreState) (done cut : List Command) (missed : ℕ) (alike : TellsAlike (g.content old) (g.content mid))

@@ -1,23 +1,6 @@
 -- What stands in every image of a disk on which a store stands.
 use Rattle.std.proofs.Common.{◌≡◌, ℕ, false, List, length, replicate, Option, None, Some, IfSome, refl, sym, ◌∙◌, ap, arith}
-use Rattle.std.specs.Prelude.{IsSome}
-use Rattle.std.specs.Option.{option_map}
-use Rattle.std.proofs.lemmas.List.{length-replicate}
-use Rattle.disk_model.specs.declared.disk.Disk.{Ghosts}
-use Rattle.block_entries.specs.IsPlaced.{IsPlaced}
-use Rattle.block_entries.specs.Outlined.{outlined, outlined_entry}
-use Rattle.block_entries.specs.Placed.{Placed, PlacedStore, Seal, placed_of}
-use Rattle.block_entries.specs.PlacedLaws.{placed_seen}
-use Rattle.block_entries.specs.Seen.{entry_with, holding_with, octets_in, seen}
-use Rattle.block_entries.proofs.Offered.{entry_seen, found_length, outlined_found}
-use Rattle.file_journal.specs.Calls.{images_now}
-use Rattle.file_journal.specs.Layout.{Blocks, blocks_on}
-use Rattle.file_journal.proofs.Offered.{images_here, told_weaker}
-use Rattle.file_entries.specs.Store.{Entry, Holding, entry_of, holding_of, octets_of, partial}
-use Rattle.file_store.specs.Laws.{HoldsInEach, StandsInEach}
-use Rattle.file_store.specs.OnDisk.{kept_at}
-use Rattle.file_store.specs.State.{StandsFor, StandsOn, StoreState, placed_in, store_form, store_on}
-use Rattle.file_store.specs.Upload.{Holds, Upload, entry_for}
+use Rattle.file_store.proofs.Names.{IsSome, option_map, length-replicate, Ghosts, IsPlaced, outlined, outlined_entry, Placed, PlacedStore, Seal, placed_of, placed_seen, entry_with, holding_with, octets_in, seen, entry_seen, found_length, outlined_found, images_now, Blocks, blocks_on, images_here, told_weaker, Entry, Holding, entry_of, holding_of, octets_of, partial, HoldsInEach, StandsInEach, kept_at, StandsFor, StandsOn, StoreState, placed_in, store_form, store_on, Holds, Upload, entry_for}
 use Rattle.file_store.proofs.DoesLemmas.{kept-on}
 
 -- ---- what the blocks hold of a file that is under way

@@ -1,19 +1,7 @@
 -- What is told of an entry, and an upload of it.
 use Rattle.std.proofs.Common.{◌≡◌, ℕ, ◌≤◌, false, [], length, Option, None, Some, refl, sym, ◌∙◌, ap, arith}
-use Rattle.std.specs.Option.{option_map}
-use Rattle.block_entries.specs.Outlined.{outlined, outlined_entry}
-use Rattle.block_entries.specs.Placed.{Placed, PlacedStore, placed_of}
-use Rattle.block_entries.specs.PlacedFiles.{placed_info}
-use Rattle.block_entries.proofs.Offered.{outlined_found, outlined_info}
-use Rattle.px_base.specs.CallSign.{CallSign}
 use Rattle.file_entries.specs.declared.info.Info.{Info}
-use Rattle.file_entries.specs.Limits.{longest_file}
-use Rattle.file_entries.specs.Info.{info_of, is_complete}
-use Rattle.file_entries.specs.IsStore.{IsStore}
-use Rattle.file_entries.specs.Store.{Entry, Holding, Store, complete, entry_of, octets_of, partial}
-use Rattle.file_entries.proofs.Offered.{found-fits, found-number, Told}
-use Rattle.file_store.specs.State.{StoreState, rest_in, store_in}
-use Rattle.file_store.specs.Upload.{HasEntry, Holds, Upload, entry_for, upload_from, upload_of}
+use Rattle.file_store.proofs.Names.{option_map, outlined, outlined_entry, Placed, PlacedStore, placed_of, placed_info, outlined_found, outlined_info, CallSign, longest_file, info_of, is_complete, IsStore, Entry, Holding, Store, complete, entry_of, octets_of, partial, found-fits, found-number, Told, StoreState, rest_in, store_in, HasEntry, Holds, Upload, entry_for, upload_from, upload_of}
 
 -- of each number the same is told by the placed files as by what memory tells of the entries
 pub shown-info : (store : PlacedStore) (number : ℕ) → option_map placed_info (placed_of store number) ≡ option_map info_of (entry_of (outlined store) number)

@@ -1,32 +1,12 @@
 -- A change of the entries as a turn of the kept state: its record, and what that makes.
 use Rattle.std.proofs.Common.{◌≡◌, ◌+◌, ℕ, ◌≤◌, ◌==◌, Bool, true, false, List, [], length, nat_le, nat_lt, Option, None, Some, refl, sym, ◌∙◌, ap, subst, arith}
-use Rattle.std.specs.Prelude.{IfSome, IsTrue, ◌&&◌, if◌then◌else◌}
-use Rattle.std.proofs.lemmas.Bool.{eq-eqb}
-use Rattle.std.proofs.lemmas.Bool.Decides.{nat_tests}
-use Rattle.block_entries.specs.Checking.{IsSealable}
-use Rattle.block_entries.specs.IsPlaced.{IsPlaced}
-use Rattle.block_entries.specs.KeptLaws.{after_placed, blocks_seen, drop_placed, grow_placed, seal_placed}
-use Rattle.block_entries.specs.Placed.{PlacedStore, placed_of}
+use Rattle.std.specs.Prelude.{◌&&◌, if◌then◌else◌}
 use Rattle.block_entries.specs.PlacedCommand as placed
-use Rattle.block_entries.specs.PlacedCommand.{PlacedCommand, after, is_partial, seal_with, with_grown, with_sealed}
-use Rattle.block_entries.specs.PlacedFiles.{EntriesState, PlacedFiles, octets_or_none, rest_of, store_of}
-use Rattle.block_entries.specs.PlacedForm.{placed_form, placed_steps}
-use Rattle.block_entries.specs.PlacedRecords.{IsWritable, placed_after, record_of_placed}
-use Rattle.block_entries.specs.Seen.{octets_in, seen, stamp_at}
-use Rattle.block_entries.specs.TestLaws.{Grows, Passes, passes_found}
-use Rattle.block_entries.proofs.Offered.{grows_allowed, kept_step, octets_written, seal_step, seen_after, seen_allowed, seen_may_grow, seen_put, seen_sealed}
+use Rattle.block_entries.specs.PlacedCommand.{after}
 use Rattle.file_entries.specs.Command as file
-use Rattle.file_entries.specs.Command.{MayBegin, can_begin}
-use Rattle.file_entries.specs.Limits.{last_next, longest_file, most_entries}
-use Rattle.file_entries.specs.Store.{Store, blocks_for, blocks_of}
-use Rattle.file_entries.proofs.Offered.{both-true}
-use Rattle.file_journal.specs.Layout.{Blocks}
-use Rattle.file_journal.specs.Records.{Record}
 use Rattle.file_journal.specs.Steps.{HasPut, WritesTurn}
-use Rattle.file_store.specs.Changes.{LetsBy, MayMake, placed_by, turn_by, waiting_in}
-use Rattle.file_store.specs.declared.change.EntriesChange.{EntriesChange}
 use Rattle.file_store.specs.declared.change.EntriesChange.TheVariants as change
-use Rattle.px_base.specs.CallSign.{CallSign}
+use Rattle.file_store.proofs.Names.{IfSome, IsTrue, eq-eqb, nat_tests, IsSealable, IsPlaced, after_placed, blocks_seen, drop_placed, grow_placed, seal_placed, PlacedStore, placed_of, PlacedCommand, is_partial, seal_with, with_grown, with_sealed, EntriesState, PlacedFiles, octets_or_none, rest_of, store_of, placed_form, placed_steps, IsWritable, placed_after, record_of_placed, octets_in, seen, stamp_at, Grows, Passes, passes_found, grows_allowed, kept_step, octets_written, seal_step, seen_after, seen_allowed, seen_may_grow, seen_put, seen_sealed, MayBegin, can_begin, last_next, longest_file, most_entries, Store, blocks_for, blocks_of, both-true, Blocks, Record, LetsBy, MayMake, placed_by, turn_by, waiting_in, EntriesChange, CallSign}
 
 -- ---- the conditions
 

@@ -1,21 +1,7 @@
 -- What the commands of one upload keep of the others, and what becomes of it.
 use Rattle.std.proofs.Common.{◌≡◌, ◌≢◌, ℕ, ◌+◌, ◌-◌, ◌*◌, ◌/◌, ◌≤◌, List, [], ◌∷◌, ◌++◌, length, take, drop, replicate, Option, None, Some, inl, inr, refl, sym, ◌∙◌, ap, subst, arith, length-append, length-drop}
-use Rattle.std.specs.Prelude.{find}
-use Rattle.std.specs.Option.{option_and_then, option_map}
-use Rattle.std.proofs.lemmas.Bool.Decides.{eqb_tells, nat_tests}
-use Rattle.std.proofs.lemmas.List.{length-replicate, length-take-le}
-use Rattle.disk_model.specs.declared.disk.Disk.{Ghosts}
-use Rattle.block_entries.specs.Placed.{has_number, placed_of}
-use Rattle.block_entries.specs.PlacedFiles.{KeepsRests, PlacedFile, PlacedFiles, entries_of, file_of, octets_or_none, rest_of, store_of}
-use Rattle.px_base.specs.CallSign.{CallSign}
-use Rattle.file_entries.specs.Command.{Command, after, after_all, begin, grown, grows}
-use Rattle.file_entries.specs.IsStore.{IsStore}
-use Rattle.file_entries.specs.Store.{Store, entry_of, new_entry, partial}
-use Rattle.file_entries.proofs.Offered.{find-append_found, find-map-changed, find-push, find_past, grows-after, has_number as has_entry_number}
-use Rattle.file_store.specs.Kept.{ChangesEntry, KeepsOtherFiles, KeepsOthers, KeepsUploads, OnlyChanges}
-use Rattle.file_store.specs.OnDisk.{after_first, outlined_all}
-use Rattle.file_store.specs.State.{StandsOn, StoreState, rest_in, store_in}
-use Rattle.file_store.specs.Upload.{FillsBlock, FitsBytes, FitsWaiting, Holds, IsWholeWaiting, Upload, appended, appending, came, entry_for, new_upload, waiting, waiting_with, with_bytes}
+use Rattle.block_entries.specs.Placed.{has_number}
+use Rattle.file_store.proofs.Names.{find, option_and_then, option_map, eqb_tells, nat_tests, length-replicate, length-take-le, Ghosts, placed_of, KeepsRests, PlacedFile, PlacedFiles, entries_of, file_of, octets_or_none, rest_of, store_of, CallSign, Command, after, after_all, begin, grown, grows, IsStore, Store, entry_of, new_entry, partial, find-append_found, find-map-changed, find-push, find_past, grows-after, has_number as has_entry_number, ChangesEntry, KeepsOtherFiles, KeepsOthers, KeepsUploads, OnlyChanges, after_first, outlined_all, StandsOn, StoreState, rest_in, store_in, FillsBlock, FitsBytes, FitsWaiting, Holds, IsWholeWaiting, Upload, appended, appending, came, entry_for, new_upload, waiting, waiting_with, with_bytes}
 use Rattle.file_store.proofs.GrowsLemmas.{AreGrows, grows-are, outlined-grows}
 use Rattle.file_store.proofs.OnLemmas.{in_parked, stands_parked}
 use Rattle.file_store.proofs.OnlyLemmas.{only-changes, only-complete, only-first, only-same}

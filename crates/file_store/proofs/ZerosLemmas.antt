@@ -1,16 +1,7 @@
 -- Blocks that hold nothing but zeros: what is seen of the entries is what memory tells.
 use Rattle.std.proofs.Common.{◌≡◌, ℕ, zero, suc, ◌+◌, ◌*◌, List, [], ◌∷◌, ◌++◌, length, map, take, replicate, Option, None, Some, refl, ap, ap₂, ◌∙◌, arith}
-use Rattle.std.specs.List.{flat_map}
-use Rattle.std.proofs.lemmas.List.{replicate-append-replicate, take-replicate}
-use Rattle.block_entries.specs.IsPlaced.{ArePlaced, IsPlaced, IsPlacedFile}
-use Rattle.block_entries.specs.Outlined.{outlined, outlined_entry}
-use Rattle.block_entries.specs.Placed.{Placed, PlacedStore, Seal}
-use Rattle.block_entries.specs.Seen.{entry_with, holding_with, octets_in, seen, seen_entry, stamp_at, whole_block}
-use Rattle.file_entries.specs.Store.{Entry, complete, holding_of, store_from}
-use Rattle.file_journal.specs.Layout.{Blocks, blocks_on}
-use Rattle.pfh_items.specs.Faults.{file_parts}
 use Rattle.pfh_items.specs.Stamp.{StampValue, stamped}
-use Rattle.std.specs.Option.{option_map}
+use Rattle.file_store.proofs.Names.{flat_map, replicate-append-replicate, take-replicate, ArePlaced, IsPlaced, IsPlacedFile, outlined, outlined_entry, Placed, PlacedStore, Seal, entry_with, holding_with, octets_in, seen, seen_entry, stamp_at, whole_block, Entry, complete, holding_of, store_from, Blocks, blocks_on, file_parts, option_map}
 
 -- a disk that tells nothing holds zeros
 abbrev no_blocks : Blocks

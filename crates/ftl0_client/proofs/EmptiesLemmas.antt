@@ -1,20 +1,7 @@
 -- Each client comes to send nothing, by one list of frames; so each event has one step.
 use Rattle.std.proofs.Common.{◌≡◌, ◌⊎◌, ℕ, zero, suc, ◌<◌, ◌≤◌, List, [], ◌∷◌, Option, None, Some, refl, sym, ◌∙◌, ap}
 use Rattle.std.proofs.Common.{subst, inl, inr, arith}
-use Rattle.std.proofs.lemmas.Option.{same_Some}
-use Rattle.ax25_frames.specs.FrameText.{FrameValue}
-use Rattle.ax25_link.specs.Ends.{IsEnd}
-use Rattle.ax25_link.specs.Refusals.{refusal_frame}
-use Rattle.ax25_link.specs.Sending.{Sending, next_sending}
-use Rattle.ax25_link.specs.Window.{Window}
-use Rattle.ax25_link.proofs.Offered.{left_to_send, next_sending-Sends}
-use Rattle.ftl0_client.specs.Attempt.Attempted.{Attempted}
-use Rattle.ftl0_client.specs.Attempt.AttemptState.{AttemptState}
-use Rattle.ftl0_client.specs.Attempt.Hearing.{with_end}
-use Rattle.ftl0_client.specs.Client.{Client, ClientHappened, ClientSends, Refused, sends_of_link}
-use Rattle.ftl0_client.specs.ClientState.{ClientState, IsAttemptOf, IsClient, LinkFits}
-use Rattle.ftl0_client.specs.ClientStep.{Empties, happening}
-use Rattle.ftl0_client.specs.Laws.{EndFits, MayStep, OneStepLaw, SomeStepLaw}
+use Rattle.ftl0_client.proofs.Names.{same_Some, FrameValue, IsEnd, refusal_frame, Sending, next_sending, Window, left_to_send, next_sending-Sends, Attempted, AttemptState, with_end, Client, ClientHappened, ClientSends, Refused, sends_of_link, ClientState, IsAttemptOf, IsClient, LinkFits, Empties, happening, EndFits, MayStep, OneStepLaw, SomeStepLaw}
 use Rattle.ftl0_client.proofs.FitsLemmas.{happening-fits}
 
 -- ---- one list of frames

@@ -1,38 +1,6 @@
 -- Each event leaves the end of a client's link such as frames and ticks bring about.
 use Rattle.std.proofs.Common.{◌≡◌, ℕ, List, [], ◌∷◌, refl}
-use Rattle.std.specs.Prelude.{Option, None, Some, ⊤}
-use Rattle.std.proofs.lemmas.Bool.{cond_both}
-use Rattle.ax25_frames.specs.FrameText.{FrameValue}
-use Rattle.ax25_link.specs.Calls.{after_hang_up, after_push}
-use Rattle.ax25_link.specs.Ends.{IsEnd, LinkEnd}
-use Rattle.ax25_link.specs.LinkStep.{heard_of_tick}
-use Rattle.ax25_link.specs.Refusals.{is_answered}
-use Rattle.ax25_link.specs.Rows.{after_frame, heard_of}
-use Rattle.ax25_link.specs.Sending.{IsQuiet, Sending, next_sending}
-use Rattle.ax25_link.specs.Timer.{after_tick, told_of_tick}
-use Rattle.ax25_link.specs.Window.{Window}
-use Rattle.ax25_link.specs.declared.state.Heard.{Heard}
-use Rattle.ax25_link.specs.declared.state.Heard.TheVariants.{Nothing, Opened, Reopened, Bytes, Closed}
-use Rattle.ax25_link.proofs.Offered.{after_frame-IsEnd, after_hang_up-IsEnd, after_push-IsEnd, after_tick-IsEnd, calling_end-IsEnd}
-use Rattle.ftl0_packets.specs.Items.{kind_of_item, texts}
-use Rattle.ftl0_packets.specs.Layout.{Item, packet_text}
-use Rattle.packet_link.specs.Queuing.{fits}
-use Rattle.client_notes.specs.Laws.{after_all}
-use Rattle.client_notes.specs.Notes.{Lists, is_same_call}
-use Rattle.ftl0_job.specs.declared.ending.Ending.{Ending}
-use Rattle.ftl0_job.specs.declared.work.Work.{Work}
-use Rattle.ftl0_job.specs.Row.{Row}
-use Rattle.ftl0_job.specs.Table.{job_after, job_row}
-use Rattle.ftl0_client.specs.Attempt.Attempted.{Attempted}
-use Rattle.ftl0_client.specs.Attempt.Hearing.{after_hearing, after_told, packets_heard, with_end}
-use Rattle.ftl0_client.specs.Attempt.Settling.{settled}
-use Rattle.ftl0_client.specs.Attempt.Taking.{Happened, after_replies, parting, replied, taking, taking_by}
-use Rattle.ftl0_client.specs.Attempt.Taking.{taking_one}
-use Rattle.ftl0_client.specs.Client.{Client, ClientEvent, IsSilent, Refused, asks, attempt_for, hearing_by}
-use Rattle.ftl0_client.specs.Client.{hears, refusing, sends_by, sends_of_attempt, sends_of_link}
-use Rattle.ftl0_client.specs.Client.{ticking_by, ticks}
-use Rattle.ftl0_client.specs.ClientStep.{happening}
-use Rattle.ftl0_client.specs.Laws.{EndFits}
+use Rattle.ftl0_client.proofs.Names.{Option, None, Some, ⊤, cond_both, FrameValue, after_hang_up, after_push, IsEnd, LinkEnd, heard_of_tick, is_answered, after_frame, heard_of, IsQuiet, Sending, next_sending, after_tick, told_of_tick, Window, Heard, Nothing, Opened, Reopened, Bytes, Closed, after_frame-IsEnd, after_hang_up-IsEnd, after_push-IsEnd, after_tick-IsEnd, calling_end-IsEnd, kind_of_item, texts, Item, packet_text, fits, after_all, Lists, is_same_call, Ending, Work, Row, job_after, job_row, Attempted, after_hearing, after_told, packets_heard, with_end, settled, Happened, after_replies, parting, replied, taking, taking_by, taking_one, Client, ClientEvent, IsSilent, Refused, asks, attempt_for, hearing_by, hears, refusing, sends_by, sends_of_attempt, sends_of_link, ticking_by, ticks, happening, EndFits}
 use Rattle.ftl0_client.proofs.attempt.SettlingLemmas.{settled-keeps}
 
 -- ---- ends

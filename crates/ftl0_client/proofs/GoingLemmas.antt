@@ -1,46 +1,15 @@
 -- What stands of a client over events.
 use Rattle.std.proofs.Common.{◌≡◌, ◌≢◌, ℕ, true, false, ◌==◌, List, [], ◌∷◌, ◌++◌, refl, sym, ◌∙◌, ap, ap₂, subst}
-use Rattle.std.specs.Prelude.{Option, None, Some, nat_lt}
 use Rattle.std.specs.List.{AllByRecursion}
-use Rattle.std.proofs.lemmas.Bool.{cond_both}
-use Rattle.std.proofs.lemmas.Option.{same_Some}
-use Rattle.ax25_frames.specs.FrameText.{FrameValue}
-use Rattle.ax25_link.specs.declared.state.LinkState.{LinkState}
 use Rattle.ax25_link.specs.declared.state.LinkState.TheVariants as link
-use Rattle.ax25_link.specs.declared.state.LinkState.TheVariants.{Down}
-use Rattle.ax25_link.specs.declared.state.Why.{Why}
-use Rattle.ax25_link.specs.Acknowledging.{with_timer_anew}
-use Rattle.ax25_link.specs.Ends.{Farewell, LinkEnd, Reply, outstanding}
-use Rattle.ax25_link.specs.Refusals.{is_answered, refusal_frame}
-use Rattle.ax25_link.specs.Sending.{Sending, has_new, last_sending, later_sending, next_sending, sending_after}
-use Rattle.ax25_link.specs.Sending.{sends_again, sends_farewell, sends_new, sends_reply, with_piece}
-use Rattle.ax25_link.specs.Timer.{is_down}
-use Rattle.ax25_link.specs.Window.{Window}
-use Rattle.client_notes.specs.Command.{NotesCommand}
-use Rattle.client_notes.specs.Laws.{after_all}
-use Rattle.client_notes.specs.Notes.{Lists, is_same_call}
-use Rattle.client_notes.proofs.Offered.{after_all-append}
-use Rattle.ftl0_job.specs.declared.ending.Ending.{Ending}
 use Rattle.ftl0_job.specs.declared.ending.Outcome as job
 use Rattle.ftl0_job.specs.declared.ending.Outcome.TheVariants as reached
-use Rattle.ftl0_job.specs.declared.work.Work.{Work}
-use Rattle.ftl0_job.specs.Promises.{EndPromises, WorkPromises}
-use Rattle.ftl0_job.specs.Table.{listing_of}
 use Rattle.ftl0_client.specs.Attempt.Attempted as attempted
-use Rattle.ftl0_client.specs.Attempt.Attempted.{Attempted, calling, outcome_of}
-use Rattle.ftl0_client.specs.Attempt.Hearing.{ticking, with_end}
 use Rattle.ftl0_client.specs.Attempt.Laws as of_attempts
-use Rattle.ftl0_client.specs.Attempt.Laws.{AttemptStands, CallingLaw, QuietLaw, StandsLaw}
-use Rattle.ftl0_client.specs.declared.attempt.outcome.AttemptOutcome.{AttemptOutcome}
-use Rattle.ftl0_client.specs.declared.attempt.outcome.AttemptOutcome.TheVariants.{Reached, LinkDown}
-use Rattle.ftl0_client.specs.Client.{Client, ClientEvent, ClientSends, Refused, asking, asks, hearing_by}
-use Rattle.ftl0_client.specs.Client.{hearing_stranger, hears, refusing, sends_by}
-use Rattle.ftl0_client.specs.Client.{sends_of_attempt, sends_of_link, ticking_by, ticks, with_attempt}
-use Rattle.ftl0_client.specs.ClientStep.{ClientStep, Empties, happening}
 use Rattle.ftl0_client.specs.declared.outcome.Outcome.TheVariants as outcome
 use Rattle.ftl0_client.specs.Going.{AsksNothing, GoesLaw, GoesOver, Promises, SettledLaw, Stands, StaysLaw, is_over_at}
-use Rattle.ftl0_client.specs.Laws.{IsToldDownOf, KeepsOutcome}
-use Rattle.ftl0_client.specs.Outcomes.{outcome_as, outcome_by, outcome_of_job}
+use Rattle.ftl0_client.specs.Outcomes.{outcome_by}
+use Rattle.ftl0_client.proofs.Names.{Option, None, Some, nat_lt, cond_both, same_Some, FrameValue, LinkState, Down, Why, with_timer_anew, Farewell, LinkEnd, Reply, outstanding, is_answered, refusal_frame, Sending, has_new, last_sending, later_sending, next_sending, sending_after, sends_again, sends_farewell, sends_new, sends_reply, with_piece, is_down, Window, NotesCommand, after_all, Lists, is_same_call, after_all-append, Ending, Work, EndPromises, WorkPromises, listing_of, Attempted, calling, outcome_of, ticking, with_end, AttemptStands, CallingLaw, QuietLaw, StandsLaw, AttemptOutcome, Reached, LinkDown, Client, ClientEvent, ClientSends, Refused, asking, asks, hearing_by, hearing_stranger, hears, refusing, sends_by, sends_of_attempt, sends_of_link, ticking_by, ticks, with_attempt, ClientStep, Empties, happening, IsToldDownOf, KeepsOutcome, outcome_as, outcome_of_job}
 use Rattle.ftl0_client.proofs.OutcomeLemmas.{outcome-stays, stranger-attempt}
 
 -- ---- what stands of the attempt, and of the client

@@ -1,24 +1,9 @@
 -- What a client needs to hear a frame stays, while its notes do, and when a task is started.
 use Rattle.std.proofs.Common.{◌⊎◌, refl, sym, ◌∙◌, ap, subst, inl, inr}
-use Rattle.std.specs.Prelude.{ℕ, List, [], ◌∷◌, Option, None, Some, Result, Ok, Err, IsErr, IsErrOf, IsTrue}
-use Rattle.px_base.specs.CallSign.{CallSign}
-use Rattle.disk_model.specs.declared.disk.Disk.{Ghosts}
-use Rattle.client_notes.specs.Answers.{fresh_task, start_reaches}
-use Rattle.client_notes.specs.Command.{after, new_task}
-use Rattle.client_notes.specs.Notes.{Lists}
-use Rattle.client_notes.specs.OnDisk.{Does, Untouched}
-use Rattle.client_notes.specs.State.{IsReady, NotesState, StandsOn}
-use Rattle.client_notes.specs.declared.answers.Begun.{Begun}
-use Rattle.client_notes.specs.declared.refusals.NotesRefusal.{NotesRefusal}
+use Rattle.std.specs.Prelude.{◌∷◌}
 use Rattle.client_notes.specs.declared.refusals.NotesRefusal.TheVariants as refusal
-use Rattle.client_notes.proofs.Offered.{task-more}
-use Rattle.ftl0_job.specs.declared.ending.Ending.{Ending}
-use Rattle.ftl0_job.specs.declared.work.Work.{Work}
 use Rattle.ftl0_job.specs.declared.work.Work.TheVariants as work
-use Rattle.ftl0_job.specs.JobState.{GoBy, GoWith}
-use Rattle.ftl0_client.specs.Attempt.AttemptState.{AttemptState}
-use Rattle.ftl0_client.specs.Calls.{KeepsNotes}
-use Rattle.ftl0_client.specs.ClientState.{ClientState, GoWithAttempt, MayHear}
+use Rattle.ftl0_client.proofs.Names.{ℕ, List, [], Option, None, Some, Result, Ok, Err, IsErr, IsErrOf, IsTrue, CallSign, Ghosts, fresh_task, start_reaches, after, new_task, Lists, Does, Untouched, IsReady, NotesState, StandsOn, Begun, NotesRefusal, task-more, Ending, Work, GoBy, GoWith, AttemptState, KeepsNotes, ClientState, GoWithAttempt, MayHear}
 
 -- ---- the notes are as they were
 

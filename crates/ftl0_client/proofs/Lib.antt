@@ -8,3 +8,4 @@ mod StartLemmas
 mod StrangerLemmas
 mod TickLemmas
 pub use Rattle.ftl0_packets.proofs.OctetLemmas
+mod Names

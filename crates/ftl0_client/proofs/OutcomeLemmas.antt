@@ -1,27 +1,14 @@
 -- What became of what was asked stays, and is noted.
 use Rattle.std.proofs.Common.{◌≡◌, ◌≢◌, ℕ, Bool, true, false, refl, sym, ◌∙◌, ap, subst}
-use Rattle.std.specs.Prelude.{Option, None, Some, if◌then◌else◌}
-use Rattle.std.proofs.lemmas.Bool.{cond_both}
-use Rattle.ax25_frames.specs.FrameText.{FrameValue}
-use Rattle.ax25_link.specs.Refusals.{is_answered}
-use Rattle.ax25_link.specs.declared.state.Why.{Why}
-use Rattle.client_notes.specs.Notes.{is_same_call}
-use Rattle.ftl0_job.specs.declared.ending.Ending.{Ending}
+use Rattle.std.specs.Prelude.{if◌then◌else◌}
 use Rattle.ftl0_job.specs.declared.ending.Outcome.TheVariants as reached
-use Rattle.ftl0_job.specs.declared.work.Work.{Work}
 use Rattle.ftl0_job.specs.declared.work.Work.TheVariants as work
-use Rattle.ftl0_job.specs.Table.{JobState, new_job}
 use Rattle.ftl0_client.specs.Attempt.Attempted as attempted
-use Rattle.ftl0_client.specs.Attempt.Attempted.{Attempted, outcome_of}
-use Rattle.ftl0_client.specs.Attempt.Hearing.{hearing}
 use Rattle.ftl0_client.specs.Attempt.Laws as of_attempts
-use Rattle.ftl0_client.specs.Attempt.Laws.{AcknowledgesIn, IsFetchedBy}
-use Rattle.ftl0_client.specs.declared.attempt.outcome.AttemptOutcome.{AttemptOutcome}
-use Rattle.ftl0_client.specs.declared.attempt.outcome.AttemptOutcome.TheVariants.{Reached, LinkDown}
-use Rattle.ftl0_client.specs.Client.{Client, hearing_by, hearing_stranger, refusing, ticking_by}
 use Rattle.ftl0_client.specs.declared.outcome.Outcome.TheVariants as outcome
-use Rattle.ftl0_client.specs.Laws.{AckedLaw, FetchedLaw, IsToldDownOf, KeepsOutcome, OutcomeLaw}
-use Rattle.ftl0_client.specs.Outcomes.{outcome_as, outcome_by}
+use Rattle.ftl0_client.specs.Laws.{AckedLaw, FetchedLaw, OutcomeLaw}
+use Rattle.ftl0_client.specs.Outcomes.{outcome_by}
+use Rattle.ftl0_client.proofs.Names.{Option, None, Some, cond_both, FrameValue, is_answered, Why, is_same_call, Ending, Work, JobState, new_job, Attempted, outcome_of, hearing, AcknowledgesIn, IsFetchedBy, AttemptOutcome, Reached, LinkDown, Client, hearing_by, hearing_stranger, refusing, ticking_by, IsToldDownOf, KeepsOutcome, outcome_as}
 
 -- a frame of a station with which there is no link leaves the attempt
 pub stranger-attempt : (client : Client) (frame : FrameValue) → (hearing_stranger client frame).attempt ≡ client.attempt

@@ -1,11 +1,6 @@
 -- The code's client stands for some client of the definitions.
 use Rattle.std.proofs.Common.{◌≡◌, ℕ, refl, sym, subst}
-use Rattle.std.specs.Prelude.{Option, None, Some}
-use Rattle.ax25_link.specs.Window.{window_of}
-use Rattle.ftl0_client.specs.Attempt.Attempted.{Attempted}
-use Rattle.ftl0_client.specs.Attempt.AttemptState.{AttemptState, IsAttempt, IsSomeAttempt}
-use Rattle.ftl0_client.specs.Client.{Client}
-use Rattle.ftl0_client.specs.ClientState.{ClientState, HasLink, IsAttemptOf, IsClient}
+use Rattle.ftl0_client.proofs.Names.{Option, None, Some, window_of, Attempted, AttemptState, IsAttempt, IsSomeAttempt, Client, ClientState, HasLink, IsAttemptOf, IsClient}
 
 module _ (self : ClientState) where
   -- its attempt, if there is one, stands for that one, and else there is none

@@ -1,15 +1,7 @@
 -- The task that a start gives is one that an upload of its file needs, and may be asked.
 use Rattle.std.proofs.Common.{◌≡◌, ◌⊎◌, ℕ, List, length, sym, subst}
-use Rattle.std.specs.Prelude.{IfOk, IsErr, IsTrue, Result, Ok, Err}
 use Rattle.sha2.specs.Sha256.{sha256}
-use Rattle.px_base.specs.CallSign.{CallSign}
-use Rattle.disk_model.specs.declared.disk.Disk.{Ghosts}
-use Rattle.client_notes.specs.Answers.{StartsBy, answer_of, fresh_task, start_reaches}
-use Rattle.client_notes.specs.declared.answers.Begun.{Begun}
-use Rattle.client_notes.specs.declared.refusals.NotesRefusal.{NotesRefusal}
-use Rattle.client_notes.specs.OnDisk.{Does, Untouched}
-use Rattle.client_notes.specs.State.{NotesState}
-use Rattle.ftl0_job.specs.Laws.{IsOwned, IsStarted, OwnedLaw, StartedLaw, started}
+use Rattle.ftl0_client.proofs.Names.{IfOk, IsErr, IsTrue, Result, Ok, Err, CallSign, Ghosts, StartsBy, answer_of, fresh_task, start_reaches, Begun, NotesRefusal, Does, Untouched, NotesState, IsOwned, IsStarted, OwnedLaw, StartedLaw, started}
 
 module _ {D : Type 0} (g : Ghosts D) (start : StartedLaw g) (own : OwnedLaw g) (old new : NotesState) (disk disk_now : D) (server caller : CallSign) (name digest : List ℕ) (len : ℕ) where
   -- what a start that gave this says of its task

@@ -1,18 +1,7 @@
 -- A station with which there is no link hears what an end to it that is down would say.
 use Rattle.std.proofs.Common.{◌≡◌, Bool, true, false, sym, ◌∙◌, ap, ap₂}
-use Rattle.std.specs.Prelude.{Option, None, Some, if◌then◌else◌}
-use Rattle.std.specs.Option.{option_map}
-use Rattle.px_base.specs.CallSign.{CallSign}
-use Rattle.ax25_frames.specs.FrameText.{FrameValue}
-use Rattle.ax25_link.specs.Ends.{LinkEnd, refuse}
-use Rattle.ax25_link.specs.Frames.{frame_of_reply}
-use Rattle.ax25_link.specs.Refusals.{is_answered, refusal_frame}
-use Rattle.ax25_link.specs.Rows.{replying, row_of_state}
-use Rattle.ax25_link.specs.declared.state.LinkState.{LinkState}
-use Rattle.ax25_link.specs.Sending.{Sending, next_sending}
-use Rattle.ax25_link.specs.Window.{Window}
-use Rattle.ftl0_client.specs.Client.{Client, ClientSends, client_next, refusing}
-use Rattle.ftl0_client.specs.Laws.{StrangerLaw}
+use Rattle.std.specs.Prelude.{if◌then◌else◌}
+use Rattle.ftl0_client.proofs.Names.{Option, None, Some, option_map, CallSign, FrameValue, LinkEnd, refuse, frame_of_reply, is_answered, refusal_frame, replying, row_of_state, LinkState, Sending, next_sending, Window, Client, ClientSends, client_next, refusing, StrangerLaw}
 
 -- what is said next by a client, and by an end
 abbrev said : Client → Option FrameValue

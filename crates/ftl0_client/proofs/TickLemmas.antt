@@ -1,13 +1,7 @@
 -- What a tick makes of a client.
 use Rattle.std.proofs.Common.{◌≡◌, refl, sym, subst}
-use Rattle.std.specs.Prelude.{Option, None, Some}
-use Rattle.ax25_link.specs.Window.{Window}
-use Rattle.ftl0_client.specs.Attempt.Attempted.{Attempted}
 use Rattle.ftl0_client.specs.Attempt.AttemptState as attempted
-use Rattle.ftl0_client.specs.Attempt.AttemptState.{AttemptState, IsAttempt}
-use Rattle.ftl0_client.specs.Attempt.Hearing.{ticking}
-use Rattle.ftl0_client.specs.Client.{Client, client_ticking, ticking_by}
-use Rattle.ftl0_client.specs.ClientState.{ClientState, IsAttemptOf, IsClient}
+use Rattle.ftl0_client.proofs.Names.{Option, None, Some, Window, Attempted, AttemptState, IsAttempt, ticking, Client, client_ticking, ticking_by, ClientState, IsAttemptOf, IsClient}
 
 -- the attempt of which the code's stands for one
 some-attempt : (w : Window) (attempt : AttemptState) (o : Option Attempted) → IsAttemptOf w (Some attempt) o → (a : Attempted) × (o ≡ Some a) × IsAttempt w attempt a

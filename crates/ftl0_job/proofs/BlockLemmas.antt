@@ -1,21 +1,7 @@
 -- Blocks of 512 octets that are noted, one after another.
 use Rattle.std.proofs.Common.{◌≡◌, ℕ, zero, suc, ◌+◌, ◌-◌, ◌*◌, ◌<◌, ◌≤◌, List, [], ◌∷◌, ◌++◌, length, take, drop, refl, sym, ap, ◌∙◌, subst, arith, zero-add, length-append, length-drop, drop-drop, append_assoc}
-use Rattle.std.specs.Prelude.{⊤, IsTrue, Err}
-use Rattle.std.proofs.Math.Seq.{take-add, take-append-add, drop-append-add}
-use Rattle.std.proofs.lemmas.List.{append-nil, length-take-le, take-append-le, take_all}
-use Rattle.disk_model.specs.declared.disk.Disk.{Ghosts}
-use Rattle.px_base.specs.CallSign.{CallSign}
-use Rattle.client_notes.specs.Limits.{longest_file}
-use Rattle.client_notes.specs.Command.{NotesCommand, after, got, is_allowed}
-use Rattle.client_notes.specs.Laws.{AreAllowed, after_all}
-use Rattle.client_notes.specs.Notes.{Lists, got_of}
-use Rattle.client_notes.specs.Several.{DoesSeveral}
-use Rattle.client_notes.specs.State.{NotesState}
-use Rattle.client_notes.proofs.Offered.{got-allowed, got-append, Several-longer, Several-then}
-use Rattle.disk_model.specs.declared.halt.Halt.{Halt}
 use Rattle.disk_model.specs.declared.halt.Halt.TheVariants as stop
-use Rattle.ftl0_job.specs.Download.{gots}
-use Rattle.ftl0_job.specs.Noting.{HasNoted, IsBefore}
+use Rattle.ftl0_job.proofs.Names.{⊤, IsTrue, Err, take-add, take-append-add, drop-append-add, append-nil, length-take-le, take-append-le, take_all, Ghosts, CallSign, longest_file, NotesCommand, after, got, is_allowed, AreAllowed, after_all, Lists, got_of, DoesSeveral, NotesState, got-allowed, got-append, Several-longer, Several-then, Halt, gots, HasNoted, IsBefore}
 
 -- a block that is filled to its end
 pub block-full : (block octets : List ℕ) → length block ≤ 512 → block ++ take (512 - length block) octets ≡ take 512 (block ++ octets)

@@ -1,26 +1,14 @@
 -- The rows of the client's table, each once: what holds of each of them holds of what a packet gives.
 use Rattle.std.proofs.Common.{◌≡◌, ℕ, ◌+◌, List, [], ◌∷◌, ◌++◌, Bool, true, false, length, refl}
-use Rattle.std.specs.Prelude.{◌==◌, nat_lt, if◌then◌else◌, Option, None, Some}
-use Rattle.ftl0_packets.specs.Layout.{PacketValue, data_part, data_end, login_resp, upload_cmd, ul_go_resp, ul_error_resp, ul_ack_resp, ul_nak_resp, download_cmd}
-use Rattle.ftl0_packets.specs.Layout.{dl_error_resp, dl_completed_resp, dir_short_cmd, kind_of, select_cmd, select_resp}
-use Rattle.pfh_items.specs.Faults.{fault_code}
-use Rattle.client_notes.specs.Command.{acked}
-use Rattle.client_notes.specs.Limits.{longest_file}
+use Rattle.std.specs.Prelude.{◌==◌, if◌then◌else◌}
 use Rattle.ftl0_job.specs.declared.ending.Outcome.TheVariants as outcome
-use Rattle.ftl0_job.specs.declared.phases.DirectoryPhase.{DirectoryPhase}
 use Rattle.ftl0_job.specs.declared.phases.DirectoryPhase.TheVariants as directory_phase
-use Rattle.ftl0_job.specs.declared.phases.DownloadPhase.{DownloadPhase}
 use Rattle.ftl0_job.specs.declared.phases.DownloadPhase.TheVariants as download_phase
-use Rattle.ftl0_job.specs.declared.phases.UploadPhase.{UploadPhase}
 use Rattle.ftl0_job.specs.declared.phases.UploadPhase.TheVariants as upload_phase
 use Rattle.ftl0_job.specs.Directory as directory
-use Rattle.ftl0_job.specs.Directory.{Directory, directory_row, is_empty_code, longest_listing, with_octets}
 use Rattle.ftl0_job.specs.Download as download
-use Rattle.ftl0_job.specs.Download.{Download, download_row, error_row, unnoted, whole_gots, whole_row, with_rest}
-use Rattle.ftl0_job.specs.Row.{Row, ends, ends_later, goes_on, strange}
-use Rattle.ftl0_job.specs.Short.{are_short_headers}
 use Rattle.ftl0_job.specs.Upload as upload
-use Rattle.ftl0_job.specs.Upload.{Upload, is_complete, may_go, number_commands, refusal_of, upload_row}
+use Rattle.ftl0_job.proofs.Names.{nat_lt, Option, None, Some, PacketValue, data_part, data_end, login_resp, upload_cmd, ul_go_resp, ul_error_resp, ul_ack_resp, ul_nak_resp, download_cmd, dl_error_resp, dl_completed_resp, dir_short_cmd, kind_of, select_cmd, select_resp, fault_code, acked, longest_file, DirectoryPhase, DownloadPhase, UploadPhase, Directory, directory_row, is_empty_code, longest_listing, with_octets, Download, download_row, error_row, unnoted, whole_gots, whole_row, with_rest, Row, ends, ends_later, goes_on, strange, are_short_headers, Upload, is_complete, may_go, number_commands, refusal_of, upload_row}
 
 -- ---- uploads
 

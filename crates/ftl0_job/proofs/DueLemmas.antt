@@ -1,13 +1,8 @@
 -- What is due of an upload.
 use Rattle.std.proofs.Common.{◌≡◌, ℕ, ◌+◌, ◌-◌, ◌<◌, min, true, false, List, length, take, drop, Some, refl, sym, ap, ◌∙◌, subst, arith, length-drop}
 use Rattle.std.specs.Prelude.{◌==◌}
-use Rattle.std.proofs.lemmas.Bool.Decides.{nat_tests}
-use Rattle.std.proofs.lemmas.List.{length-take, take_all, take_min}
-use Rattle.ftl0_packets.specs.Layout.{data_part, packet_text}
-use Rattle.ftl0_job.specs.declared.phases.UploadPhase.{UploadPhase}
 use Rattle.ftl0_job.specs.declared.phases.UploadPhase.TheVariants as phase
-use Rattle.ftl0_job.specs.Due.{DuePacket, PutsDue, due_from, due_in, most_data, place_after, upload_due}
-use Rattle.ftl0_job.specs.Upload.{Upload, in_phase}
+use Rattle.ftl0_job.proofs.Names.{nat_tests, length-take, take_all, take_min, data_part, packet_text, UploadPhase, DuePacket, PutsDue, due_from, due_in, most_data, place_after, upload_due, Upload, in_phase}
 
 -- the first octets of those that are left
 pub part-is : (file shown : List ℕ) (place count : ℕ) → shown ≡ file → count ≡ min (length (take (length shown - place) (drop place shown))) 254

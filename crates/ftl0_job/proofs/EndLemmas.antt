@@ -1,29 +1,10 @@
 -- The end of a file that is fetched: its rest is noted, and the whole checked.
 use Rattle.std.proofs.Common.{inl, ◌≡◌, ℕ, ◌+◌, ◌<◌, ◌≤◌, List, [], ◌∷◌, ◌++◌, length, take, refl, sym, ap, ◌∙◌, subst, arith, length-append}
-use Rattle.std.specs.Prelude.{⊤, Option, None, Some, Ok, Err}
-use Rattle.std.proofs.Math.Seq.{take-append-add}
-use Rattle.std.proofs.lemmas.List.{append-nil, take-append-le}
-use Rattle.disk_model.specs.declared.disk.Disk.{Ghosts}
-use Rattle.px_base.specs.CallSign.{CallSign}
-use Rattle.ftl0_packets.specs.Layout.{dl_ack_cmd, dl_nak_cmd, packet_text}
-use Rattle.pfh_items.specs.Faults.{fault_code}
-use Rattle.client_notes.specs.Limits.{longest_file}
-use Rattle.client_notes.specs.Command.{NotesCommand, forgot}
-use Rattle.client_notes.specs.Laws.{AreAllowed, after_all}
-use Rattle.client_notes.specs.Notes.{Lists, got_of}
-use Rattle.client_notes.specs.Several.{DoesSeveral}
-use Rattle.client_notes.specs.State.{NotesState}
-use Rattle.client_notes.proofs.Offered.{AreAllowed-append, got-allowed, got-append, Several-longer, Several-then}
-use Rattle.ftl0_job.specs.declared.ending.Ending.{Ending}
 use Rattle.ftl0_job.specs.declared.ending.Outcome.TheVariants as outcome
 use Rattle.ftl0_job.specs.declared.phases.DownloadPhase.TheVariants as phase
-use Rattle.disk_model.specs.declared.halt.Halt.{Halt}
 use Rattle.disk_model.specs.declared.halt.Halt.TheVariants as stop
-use Rattle.ftl0_job.specs.Download.{Download, data_end_row, in_phase, last_got, whole_row, with_rest}
-use Rattle.ftl0_job.specs.JobState.{HasGot}
-use Rattle.ftl0_job.specs.Noting.{HasNoted}
-use Rattle.ftl0_job.specs.Row.{Row, later}
-use Rattle.ftl0_job.specs.Taking.{TakesRow, with_notes}
+use Rattle.ftl0_job.specs.Download.{in_phase}
+use Rattle.ftl0_job.proofs.Names.{⊤, Option, None, Some, Ok, Err, take-append-add, append-nil, take-append-le, Ghosts, CallSign, dl_ack_cmd, dl_nak_cmd, packet_text, fault_code, longest_file, NotesCommand, forgot, AreAllowed, after_all, Lists, got_of, DoesSeveral, NotesState, AreAllowed-append, got-allowed, got-append, Several-longer, Several-then, Ending, Halt, Download, data_end_row, last_got, whole_row, with_rest, HasGot, HasNoted, Row, later, TakesRow, with_notes}
 use Rattle.ftl0_job.proofs.BlockLemmas.{is-before}
 use Rattle.ftl0_job.proofs.NotingLemmas.{noted-err}
 

@@ -1,17 +1,8 @@
 -- Short headers are the headers of the mandatory items alone.
 use Rattle.std.proofs.Common.{◌≡◌, ℕ, ◌+◌, ◌≤◌, Bool, true, false, List, [], ◌∷◌, ◌++◌, length, take, drop, refl, sym, ap, ◌∙◌, subst, arith, append_assoc, drop-drop, length-append, length-drop}
-use Rattle.std.specs.Prelude.{◌&&◌, nat_le}
-use Rattle.std.specs.Str.{bytes_eq}
-use Rattle.std.proofs.Math.Seq.{drop-append-add}
-use Rattle.std.proofs.lemmas.Bool.Decides.{nat_tests}
-use Rattle.std.proofs.lemmas.List.{length-take-le, take-append-drop}
-use Rattle.std.proofs.lemmas.Slice.Eq.{bytes_eq-Decides}
+use Rattle.std.specs.Prelude.{◌&&◌}
 use Rattle.px_base.specs.Numbers.{le16_octets}
-use Rattle.pfh_items.specs.Layout.{ItemValue, end_item, header_start, item_text, items_text}
-use Rattle.pfh_items.specs.Table.{mandatory_items}
-use Rattle.pfh_items.specs.declared.table.MandatoryItem.{MandatoryItem}
-use Rattle.ftl0_job.specs.Laws.{ShortLaw}
-use Rattle.ftl0_job.specs.Short.{AreItemsOf, IsItemOf, are_items, begins_item, is_short_header, item_len, item_start}
+use Rattle.ftl0_job.proofs.Names.{nat_le, bytes_eq, drop-append-add, nat_tests, length-take-le, take-append-drop, bytes_eq-Decides, ItemValue, end_item, header_start, item_text, items_text, mandatory_items, MandatoryItem, ShortLaw, AreItemsOf, IsItemOf, are_items, begins_item, is_short_header, item_len, item_start}
 
 -- ---- tests
 

@@ -1,24 +1,8 @@
 -- A job takes a packet as what it does takes it.
 use Rattle.std.proofs.Common.{inl, ◌≡◌, ℕ, List, [], refl, sym, ap, subst}
-use Rattle.std.specs.Prelude.{⊤, true, false, is_some, take, Option, None, Some, Result, Ok, Err}
-use Rattle.disk_model.specs.declared.disk.Disk.{Ghosts}
-use Rattle.ftl0_packets.specs.Layout.{Item, PacketValue}
-use Rattle.client_notes.specs.Command.{NotesCommand}
-use Rattle.client_notes.specs.Laws.{after_all}
-use Rattle.client_notes.specs.Notes.{Lists}
-use Rattle.client_notes.specs.Several.{DoesSeveral}
-use Rattle.client_notes.specs.State.{IsReady, NotesState}
-use Rattle.ftl0_job.specs.declared.ending.Ending.{Ending}
-use Rattle.disk_model.specs.declared.halt.Halt.{Halt}
 use Rattle.disk_model.specs.declared.halt.Halt.TheVariants as stop
-use Rattle.ftl0_job.specs.declared.work.Work.{Work}
 use Rattle.ftl0_job.specs.declared.work.Work.TheVariants as work
-use Rattle.ftl0_job.specs.Directory.{Directory, directory_row}
-use Rattle.ftl0_job.specs.JobState.{GoBy, GoWith}
-use Rattle.ftl0_job.specs.Noting.{HasNoted, IsBefore}
-use Rattle.ftl0_job.specs.Row.{Row}
-use Rattle.ftl0_job.specs.Table.{JobState, item_row, job_row, row_of}
-use Rattle.ftl0_job.specs.Taking.{Gives, StopsAt, TakesPacket, TakesRow, with_notes}
+use Rattle.ftl0_job.proofs.Names.{⊤, true, false, is_some, take, Option, None, Some, Result, Ok, Err, Ghosts, Item, PacketValue, NotesCommand, after_all, Lists, DoesSeveral, IsReady, NotesState, Ending, Halt, Work, Directory, directory_row, GoBy, GoWith, HasNoted, IsBefore, Row, JobState, item_row, job_row, row_of, Gives, StopsAt, TakesPacket, TakesRow, with_notes}
 use Rattle.ftl0_job.proofs.NotingLemmas.{none-by, noted-err}
 use Rattle.ftl0_job.proofs.RowLemmas.{directory-silent, job-ended, job-in}
 use Rattle.ftl0_job.proofs.StaysLemmas.{stays-item}

@@ -1,46 +1,16 @@
 -- What the outcomes of a job promise, and how it goes on.
 use Rattle.std.proofs.Common.{◌≡◌, ℕ, zero, suc, ◌+◌, ◌-◌, ◌*◌, ◌/◌, ◌≤◌, ◌<◌, List, [], ◌∷◌, ◌++◌, Bool, true, false, length, take, drop, refl, sym, ◌∙◌, ap, subst, arith, length-append, length-drop, append_assoc, inl, inr}
-use Rattle.std.specs.Prelude.{IsTrue, ◌==◌, nat_le, nat_lt, slice_get, if◌then◌else◌, Option, None, Some, Ok, Err, Result, IsErr, ◌⊎◌}
-use Rattle.std.specs.Option.{option_map}
-use Rattle.std.proofs.Math.Seq.{get_or-append_seam}
-use Rattle.std.proofs.lemmas.Bool.Decides.{nat_tests}
-use Rattle.std.proofs.lemmas.List.{take-append-drop}
-use Rattle.std.proofs.lemmas.Option.{slice_get-get_or}
-use Rattle.px_base.specs.CallSign.{CallSign}
-use Rattle.ftl0_packets.specs.Layout.{Item, PacketValue, data_part, data_end, login_resp, ul_go_resp, download_cmd}
-use Rattle.pfh_items.specs.Faults.{fault_code}
-use Rattle.client_notes.specs.declared.answers.Begun.{Begun}
+use Rattle.std.specs.Prelude.{◌==◌, if◌then◌else◌, ◌⊎◌}
 use Rattle.client_notes.specs.declared.answers.Begun.TheVariants as begun
 use Rattle.client_notes.specs.declared.answers.Noted.TheVariants as noted
-use Rattle.client_notes.specs.Limits.{longest_file}
-use Rattle.client_notes.specs.declared.progress.Progress.{Progress}
 use Rattle.client_notes.specs.declared.progress.Progress.TheVariants as progress
-use Rattle.client_notes.specs.declared.refusals.NotesRefusal.{NotesRefusal}
-use Rattle.client_notes.specs.Answers.{StartsBy, start_reaches, answer_at, answer_by, answer_last, answer_of, fresh_task, noted_as, noted_at}
-use Rattle.client_notes.specs.Command.{NotesCommand, acked, after, new_task}
-use Rattle.client_notes.specs.Laws.{AreAllowed, after_all}
-use Rattle.client_notes.specs.Notes.{Lists, Task, got_of, is_of_file, last_task, task_count, task_of}
-use Rattle.client_notes.specs.OnDisk.{Does, Untouched}
-use Rattle.client_notes.specs.State.{NotesState, StandsFor}
-use Rattle.disk_model.specs.declared.disk.Disk.{Ghosts}
-use Rattle.client_notes.proofs.Offered.{AreAllowed-first, acked-stays, both-left, task-after}
-use Rattle.ftl0_job.specs.declared.ending.Ending.{Ending}
 use Rattle.ftl0_job.specs.declared.ending.Outcome.TheVariants as outcome
-use Rattle.ftl0_job.specs.declared.phases.DownloadPhase.{DownloadPhase}
 use Rattle.ftl0_job.specs.declared.phases.DownloadPhase.TheVariants as fetch
-use Rattle.ftl0_job.specs.declared.phases.UploadPhase.{UploadPhase}
 use Rattle.ftl0_job.specs.declared.phases.UploadPhase.TheVariants as phase
 use Rattle.ftl0_job.specs.Download as download
-use Rattle.ftl0_job.specs.Download.{Download, download_row, unnoted, whole_gots, with_rest}
-use Rattle.ftl0_job.specs.Due.{DuePacket, PutsDue, due_by, due_from, due_in, in_job, in_work, most_data, next_due, place_after, upload_due}
-use Rattle.ftl0_job.specs.JobState.{GoBy, HasGot, HasTask, IsCheckedIn, NotesGoWith, number_in}
-use Rattle.ftl0_job.specs.Laws.{Acknowledges, IsAckedIn, IsStarted, reached, started}
-use Rattle.ftl0_job.specs.Row.{Row, ends, goes_on, strange}
-use Rattle.ftl0_job.specs.declared.work.Work.{Work}
 use Rattle.ftl0_job.specs.declared.work.Work.TheVariants as work
-use Rattle.ftl0_job.specs.Table.{JobState, job_row, new_job, row_by}
 use Rattle.ftl0_job.specs.Upload as upload
-use Rattle.ftl0_job.specs.Upload.{Upload, in_phase, new_upload, upload_row}
+use Rattle.ftl0_job.proofs.Names.{IsTrue, nat_le, nat_lt, slice_get, Option, None, Some, Ok, Err, Result, IsErr, option_map, get_or-append_seam, nat_tests, take-append-drop, slice_get-get_or, CallSign, Item, PacketValue, data_part, data_end, login_resp, ul_go_resp, download_cmd, fault_code, Begun, longest_file, Progress, NotesRefusal, StartsBy, start_reaches, answer_at, answer_by, answer_last, answer_of, fresh_task, noted_as, noted_at, NotesCommand, acked, after, new_task, AreAllowed, after_all, Lists, Task, got_of, is_of_file, last_task, task_count, task_of, Does, Untouched, NotesState, StandsFor, Ghosts, AreAllowed-first, acked-stays, both-left, task-after, Ending, DownloadPhase, UploadPhase, Download, download_row, unnoted, whole_gots, with_rest, DuePacket, PutsDue, due_by, due_from, due_in, in_job, in_work, most_data, next_due, place_after, upload_due, GoBy, HasGot, HasTask, IsCheckedIn, NotesGoWith, number_in, Acknowledges, IsAckedIn, IsStarted, reached, started, Row, ends, goes_on, strange, Work, JobState, job_row, new_job, row_by, Upload, in_phase, new_upload, upload_row}
 use Rattle.ftl0_job.proofs.BlockLemmas.{gots-after}
 use Rattle.ftl0_job.proofs.CaseLemmas.{DownloadRows, UploadRows, download-rows, upload-rows}
 use Rattle.ftl0_job.proofs.StaysLemmas.{stays-item}

@@ -12,3 +12,4 @@ mod PromiseLemmas
 mod RowLemmas
 mod ShortLemmas
 mod StaysLemmas
+mod Names

@@ -1,23 +1,11 @@
 -- What a call of the notes does, as a job says it.
 use Rattle.std.proofs.Common.{◌≡◌, ℕ, false, List, [], ◌∷◌, refl, sym, ◌∙◌, subst, inl, inr, arith}
-use Rattle.std.specs.Prelude.{⊤, Option, Result, Ok, Err, IsErr, IsErrOf, IsTrue, ◌⊎◌}
-use Rattle.disk_model.specs.declared.disk.Disk.{Ghosts}
+use Rattle.std.specs.Prelude.{◌⊎◌}
 use Rattle.file_journal.specs.declared.faults.JournalFault.{JournalFault}
 use Rattle.file_journal.specs.declared.faults.JournalFault.TheVariants as fault
-use Rattle.client_notes.specs.declared.refusals.NotesRefusal.{NotesRefusal}
 use Rattle.client_notes.specs.declared.refusals.NotesRefusal.TheVariants as refusal
-use Rattle.client_notes.specs.Answers.{Noting}
-use Rattle.client_notes.specs.Command.{NotesCommand}
-use Rattle.client_notes.specs.OnDisk.{Answers, Does, Untouched}
-use Rattle.client_notes.specs.Several.{DoesSeveral}
-use Rattle.client_notes.specs.State.{IsReady, NotesState}
-use Rattle.client_notes.proofs.Offered.{Several-none, Several-one, Several-same}
-use Rattle.ftl0_job.specs.declared.ending.Ending.{Ending}
-use Rattle.disk_model.specs.declared.halt.Halt.{Halt}
 use Rattle.disk_model.specs.declared.halt.Halt.TheVariants as stop
-use Rattle.ftl0_job.specs.Noting.{HasNoted, IsAnswer, IsAnswerOf, NotesAtOnce}
-use Rattle.ftl0_job.specs.Row.{Row}
-use Rattle.ftl0_job.specs.Taking.{Gives, TakesRow, with_notes}
+use Rattle.ftl0_job.proofs.Names.{⊤, Option, Result, Ok, Err, IsErr, IsErrOf, IsTrue, Ghosts, NotesRefusal, Noting, NotesCommand, Answers, Does, Untouched, DoesSeveral, IsReady, NotesState, Several-none, Several-one, Several-same, Ending, Halt, HasNoted, IsAnswer, IsAnswerOf, NotesAtOnce, Row, Gives, TakesRow, with_notes}
 
 -- the answers by name
 abbrev done : Result ⊤ Halt

@@ -1,26 +1,10 @@
 -- The task that a start of the notes gives is of its server, caller and digest.
 use Rattle.std.proofs.Common.{◌≡◌, ◌⊎◌, inl, inr, ℕ, ◌+◌, ◌-◌, ◌<◌, Bool, true, false, List, get_or, refl, sym, ◌∙◌, ap, subst, arith, eq-eqb}
-use Rattle.std.specs.Prelude.{◌&&◌, ◌==◌, IsErr, IsTrue, Option, None, Some, Ok, length, reverse}
-use Rattle.std.specs.Option.{option_map}
-use Rattle.std.specs.Str.{bytes_eq}
-use Rattle.std.proofs.lemmas.List.{get_or-reverse, length-reverse}
+use Rattle.std.specs.Prelude.{◌&&◌, ◌==◌}
 use Rattle.std.proofs.lemmas.List.Quantifiers.{position-Some}
-use Rattle.std.proofs.lemmas.Option.{get_or_from_slice_get}
-use Rattle.std.proofs.lemmas.Slice.Eq.{bytes_eq-Decides}
-use Rattle.disk_model.specs.declared.disk.Disk.{Ghosts}
-use Rattle.px_base.specs.CallSign.{CallSign}
-use Rattle.client_notes.specs.declared.answers.Begun.{Begun}
 use Rattle.client_notes.specs.declared.answers.Begun.TheVariants as begun
-use Rattle.client_notes.specs.declared.progress.Progress.{Progress}
 use Rattle.client_notes.specs.declared.progress.Progress.TheVariants as progress
-use Rattle.client_notes.specs.Answers.{StartsBy, answer_at, answer_by, answer_last, answer_of, fresh_task, start_reaches}
-use Rattle.client_notes.specs.Command.{after, new_task}
-use Rattle.client_notes.specs.Notes.{Lists, Task, is_of_file, is_same_call, is_task_for, last_task, place_from_end, task_count, task_of}
-use Rattle.client_notes.specs.OnDisk.{Does, Untouched}
-use Rattle.client_notes.specs.State.{NotesState}
-use Rattle.client_notes.proofs.Offered.{both-left, task-at}
-use Rattle.ftl0_job.specs.JobState.{IsTaskOf}
-use Rattle.ftl0_job.specs.Laws.{IsOwned, started}
+use Rattle.ftl0_job.proofs.Names.{IsErr, IsTrue, Option, None, Some, Ok, length, reverse, option_map, bytes_eq, get_or-reverse, length-reverse, get_or_from_slice_get, bytes_eq-Decides, Ghosts, CallSign, Begun, Progress, StartsBy, answer_at, answer_by, answer_last, answer_of, fresh_task, start_reaches, after, new_task, Lists, Task, is_of_file, is_same_call, is_task_for, last_task, place_from_end, task_count, task_of, Does, Untouched, NotesState, both-left, task-at, IsTaskOf, IsOwned, started}
 use Rattle.ftl0_job.proofs.LawLemmas.{fresh-number, going-answer, not-fresh, task-begun}
 use Rattle.ftl0_job.proofs.StaysLemmas.{both-right}
 

@@ -1,34 +1,13 @@
 -- What stands of a job of which some work was asked, after each packet.
 use Rattle.std.proofs.Common.{◌≡◌, ℕ, List, [], ◌∷◌, ◌++◌, Bool, true, false, length, take, drop, refl, sym, ◌∙◌, ap, subst}
-use Rattle.std.specs.Prelude.{◌==◌, if◌then◌else◌, Option, None, Some, Ok, Err}
-use Rattle.std.proofs.lemmas.Option.{same_Some}
-use Rattle.std.specs.Option.{option_map}
-use Rattle.px_base.specs.CallSign.{CallSign}
-use Rattle.ftl0_packets.specs.Layout.{Item, PacketValue, data_end, data_part, packet_text}
-use Rattle.client_notes.specs.Command.{forgot}
-use Rattle.client_notes.specs.Laws.{after_all}
-use Rattle.client_notes.specs.Notes.{Lists, got_of, no_notes}
-use Rattle.client_notes.proofs.Offered.{after_all-append, forgot-none}
-use Rattle.ftl0_job.specs.declared.ending.Ending.{Ending}
+use Rattle.std.specs.Prelude.{◌==◌, if◌then◌else◌}
 use Rattle.ftl0_job.specs.declared.ending.Outcome.{Outcome}
 use Rattle.ftl0_job.specs.declared.ending.Outcome.TheVariants as outcome
-use Rattle.ftl0_job.specs.declared.phases.DirectoryPhase.{DirectoryPhase}
 use Rattle.ftl0_job.specs.declared.phases.DirectoryPhase.TheVariants as phase
-use Rattle.ftl0_job.specs.declared.phases.DownloadPhase.{DownloadPhase}
-use Rattle.ftl0_job.specs.declared.phases.UploadPhase.{UploadPhase}
 use Rattle.ftl0_job.specs.declared.phases.UploadPhase.TheVariants as upload_phase
-use Rattle.ftl0_job.specs.declared.work.Work.{Work}
 use Rattle.ftl0_job.specs.declared.work.Work.TheVariants as work
-use Rattle.ftl0_job.specs.Directory.{Directory, directory_row}
-use Rattle.ftl0_job.specs.Download.{Download, download_row, last_got}
-use Rattle.ftl0_job.specs.JobState.{GoBy, GoWith, HasGot, HasTask, IsCheckedIn, IsNotBegun, number_in}
-use Rattle.ftl0_job.specs.Due.{DuePacket, PutsDue, due_by, due_from, due_in, in_job, in_work, most_data, next_due, place_after}
-use Rattle.ftl0_job.specs.Laws.{BegunLaw, DueLaw, ListedLaw, PromisesLaw}
 use Rattle.ftl0_job.specs.Promises.{DownloadPromises, EndPromises, IsEmptyBefore, IsFilled, IsOfSame, ListPromises, UploadPromises, WorkPromises}
-use Rattle.ftl0_job.specs.Row.{Row}
-use Rattle.ftl0_job.specs.Short.{are_headers, are_short_headers}
-use Rattle.ftl0_job.specs.Table.{JobState, item_row, job_row, listing_of, packet_row, row_by}
-use Rattle.ftl0_job.specs.Upload.{Upload, in_phase, upload_row}
+use Rattle.ftl0_job.proofs.Names.{Option, None, Some, Ok, Err, same_Some, option_map, CallSign, Item, PacketValue, data_end, data_part, packet_text, forgot, after_all, Lists, got_of, no_notes, after_all-append, forgot-none, Ending, DirectoryPhase, DownloadPhase, UploadPhase, Work, Directory, directory_row, Download, download_row, last_got, GoBy, GoWith, HasGot, HasTask, IsCheckedIn, IsNotBegun, number_in, DuePacket, PutsDue, due_by, due_from, due_in, in_job, in_work, most_data, next_due, place_after, BegunLaw, DueLaw, ListedLaw, PromisesLaw, Row, are_headers, are_short_headers, JobState, item_row, job_row, listing_of, packet_row, row_by, Upload, in_phase, upload_row}
 use Rattle.ftl0_job.proofs.CaseLemmas.{DirectoryRows, DownloadRows, UploadRows, directory-rows, download-rows, upload-rows}
 use Rattle.ftl0_job.proofs.LawLemmas.{acked-now, due-goes, stays}
 

@@ -1,21 +1,9 @@
 -- A packet's row by how far the work has come.
 use Rattle.std.proofs.Common.{◌≡◌, ℕ, List, [], refl, ap}
-use Rattle.std.specs.Prelude.{None, Some}
-use Rattle.ftl0_packets.specs.Layout.{Item}
-use Rattle.client_notes.specs.Notes.{Lists}
-use Rattle.ftl0_job.specs.declared.ending.Ending.{Ending}
-use Rattle.ftl0_packets.specs.Layout.{PacketValue, login_resp}
-use Rattle.ftl0_packets.specs.Layout.{dl_completed_resp}
-use Rattle.ftl0_job.specs.declared.phases.DirectoryPhase.{DirectoryPhase}
-use Rattle.ftl0_job.specs.declared.phases.DownloadPhase.{DownloadPhase}
-use Rattle.ftl0_job.specs.declared.phases.UploadPhase.{UploadPhase}
 use Rattle.ftl0_job.specs.Directory as directory
-use Rattle.ftl0_job.specs.Directory.{Directory, directory_row}
 use Rattle.ftl0_job.specs.Download as download
-use Rattle.ftl0_job.specs.Download.{Download, download_row}
-use Rattle.ftl0_job.specs.Table.{JobState, ended_row, item_row, job_row, row_by}
 use Rattle.ftl0_job.specs.Upload as upload
-use Rattle.ftl0_job.specs.Upload.{Upload, upload_row}
+use Rattle.ftl0_job.proofs.Names.{None, Some, Item, Lists, Ending, PacketValue, login_resp, dl_completed_resp, DirectoryPhase, DownloadPhase, UploadPhase, Directory, directory_row, Download, download_row, JobState, ended_row, item_row, job_row, row_by, Upload, upload_row}
 use Rattle.ftl0_job.proofs.CaseLemmas.{DirectoryRows, directory-rows}
 
 pub upload-in : (at : Upload) (packet : PacketValue) (phase : UploadPhase) → at.phase ≡ phase → upload_row at packet ≡ upload.row_in phase at packet

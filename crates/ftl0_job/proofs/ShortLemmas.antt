@@ -1,11 +1,7 @@
 -- Short headers, one after another.
 use Rattle.std.proofs.Common.{◌≡◌, ℕ, suc, ◌+◌, ◌-◌, ◌*◌, ◌/◌, ◌<◌, ◌≤◌, Bool, true, false, List, [], length, take, drop, get_or, refl, sym, ap, ◌∙◌, arith, drop-cons, length-drop}
 use Rattle.std.specs.Prelude.{◌&&◌, ◌==◌}
-use Rattle.std.proofs.lemmas.List.{take_all}
-use Rattle.std.specs.Str.{bytes_eq}
-use Rattle.pfh_items.specs.Layout.{end_item}
-use Rattle.pfh_items.specs.declared.table.MandatoryItem.{MandatoryItem}
-use Rattle.ftl0_job.specs.Short.{are_headers, are_items, begins_item, is_short_header, item_len, short_len}
+use Rattle.ftl0_job.proofs.Names.{take_all, bytes_eq, end_item, MandatoryItem, are_headers, are_items, begins_item, is_short_header, item_len, short_len}
 
 -- all of what is left behind a place
 pub rest-is : (octets : List ℕ) (count : ℕ) → take (length octets - count) (drop count octets) ≡ drop count octets

@@ -1,29 +1,11 @@
 -- The notes go with a job after each row.
 use Rattle.std.proofs.Common.{◌≡◌, ℕ, ◌+◌, ◌-◌, ◌*◌, ◌/◌, ◌≤◌, List, [], ◌∷◌, ◌++◌, Bool, true, false, length, take, refl, sym, ◌∙◌, ap, subst, arith, length-append, length-drop}
-use Rattle.std.specs.Prelude.{IsTrue, ◌&&◌, ◌==◌, nat_le, nat_lt, if◌then◌else◌, Option, None, Some, Ok, Err}
-use Rattle.std.proofs.lemmas.Bool.Decides.{nat_tests}
-use Rattle.std.proofs.lemmas.List.{length-take-le}
-use Rattle.ftl0_packets.specs.Layout.{Item, PacketValue}
-use Rattle.pfh_items.specs.Faults.{fault_code}
-use Rattle.client_notes.specs.Limits.{longest_file}
-use Rattle.client_notes.specs.Command.{numbered}
-use Rattle.client_notes.specs.Laws.{after_all}
-use Rattle.client_notes.specs.Notes.{Lists, got_of}
-use Rattle.client_notes.proofs.Offered.{both-left, task-after}
-use Rattle.ftl0_job.specs.declared.ending.Ending.{Ending}
-use Rattle.ftl0_job.specs.declared.phases.DownloadPhase.{DownloadPhase}
+use Rattle.std.specs.Prelude.{◌&&◌, ◌==◌, if◌then◌else◌}
 use Rattle.ftl0_job.specs.declared.phases.DownloadPhase.TheVariants as download_phase
-use Rattle.ftl0_job.specs.declared.phases.UploadPhase.{UploadPhase}
 use Rattle.ftl0_job.specs.declared.phases.UploadPhase.TheVariants as upload_phase
-use Rattle.ftl0_job.specs.declared.work.Work.{Work}
 use Rattle.ftl0_job.specs.declared.work.Work.TheVariants as work
-use Rattle.ftl0_job.specs.Directory.{Directory, directory_row}
-use Rattle.ftl0_job.specs.Download.{Download, download_row, last_got, unnoted, whole_gots, whole_row, with_rest}
-use Rattle.ftl0_job.specs.JobState.{GoBy, GoWith, HasGot, HasTask, IsCheckedIn, number_in}
-use Rattle.ftl0_job.specs.Row.{Row}
-use Rattle.ftl0_job.specs.Table.{item_row, packet_row}
 use Rattle.ftl0_job.specs.Upload as upload
-use Rattle.ftl0_job.specs.Upload.{Upload, is_new, may_go, number_commands, upload_row}
+use Rattle.ftl0_job.proofs.Names.{IsTrue, nat_le, nat_lt, Option, None, Some, Ok, Err, nat_tests, length-take-le, Item, PacketValue, fault_code, longest_file, numbered, after_all, Lists, got_of, both-left, task-after, Ending, DownloadPhase, UploadPhase, Work, Directory, directory_row, Download, download_row, last_got, unnoted, whole_gots, whole_row, with_rest, GoBy, GoWith, HasGot, HasTask, IsCheckedIn, number_in, Row, item_row, packet_row, Upload, is_new, may_go, number_commands, upload_row}
 use Rattle.ftl0_job.proofs.BlockLemmas.{gots-after}
 use Rattle.ftl0_job.proofs.CaseLemmas.{DownloadRows, UploadRows, download-rows, upload-rows}
 use Rattle.ftl0_job.proofs.EndLemmas.{last-after}

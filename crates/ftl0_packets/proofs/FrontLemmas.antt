@@ -1,12 +1,6 @@
 -- The fronts of the texts of packets.
 use Rattle.std.proofs.Common.{◌≡◌, ℕ, ◌<◌, ◌≤◌, ◌⊎◌, List, [], ◌∷◌, ◌++◌, length, Ok, refl, inl, inr, sym, ap, ◌∙◌, subst, arith, append_assoc, length-append}
-use Rattle.std.proofs.lemmas.Bool.{cases_lt}
-use Rattle.std.proofs.lemmas.List.{nil_from_length}
-use Rattle.px_base.specs.Octets.{IsFront}
-use Rattle.ftl0_packets.specs.Items.{texts}
-use Rattle.ftl0_packets.specs.Laws.{FrontLaw, IsRestBefore, ReadsFront}
-use Rattle.ftl0_packets.specs.Layout.{Fits, Item, PacketValue, packet_text}
-use Rattle.ftl0_packets.specs.Reading.{packets_of, rest_of, text_len}
+use Rattle.ftl0_packets.proofs.Names.{cases_lt, nil_from_length, IsFront, texts, FrontLaw, IsRestBefore, ReadsFront, Fits, Item, PacketValue, packet_text, packets_of, rest_of, text_len}
 use Rattle.ftl0_packets.proofs.StreamLemmas.{packets_of-less, read_again, rest_of-less, rest_of-whole}
 use Rattle.ftl0_packets.proofs.TextLemmas.{IsText-PacketText, length-whole, text_len-append}
 

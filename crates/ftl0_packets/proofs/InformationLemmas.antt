@@ -1,11 +1,7 @@
 -- The information of a packet and its fields, in both directions.
 use Rattle.std.proofs.Common.{◌≡◌, ℕ, zero, suc, ◌+◌, ◌*◌, ◌/◌, ◌%◌, ◌^◌, ◌<◌, ◌≤◌, ◌==◌, List, [], ◌∷◌, ◌++◌, length, slice_index, true, false, refl, sym, ap, ◌∙◌, arith, lit<}
-use Rattle.std.proofs.lemmas.Bool.{eqb-true, ltb-true, lt-ltb, ne_eqb, false≢true}
-use Rattle.std.proofs.lemmas.List.{nil_from_length}
 use Rattle.px_base.specs.Numbers.{le16, le32, le16_octets, le32_octets}
-use Rattle.px_base.specs.Octets.{IsOctets}
-use Rattle.ftl0_packets.specs.Layout.{PacketValue, data_part, data_end, login_resp, upload_cmd, ul_go_resp, ul_error_resp, ul_ack_resp, ul_nak_resp, download_cmd, dl_error_resp, dl_aborted_resp, dl_completed_resp, dl_ack_cmd, dl_nak_cmd, dir_short_cmd, dir_long_cmd, select_cmd, select_resp, kind_of, information, Fits, has_length}
-use Rattle.ftl0_packets.specs.Reading.{packet_from}
+use Rattle.ftl0_packets.proofs.Names.{eqb-true, ltb-true, lt-ltb, ne_eqb, false≢true, nil_from_length, IsOctets, PacketValue, data_part, data_end, login_resp, upload_cmd, ul_go_resp, ul_error_resp, ul_ack_resp, ul_nak_resp, download_cmd, dl_error_resp, dl_aborted_resp, dl_completed_resp, dl_ack_cmd, dl_nak_cmd, dir_short_cmd, dir_long_cmd, select_cmd, select_resp, kind_of, information, Fits, has_length, packet_from}
 use Rattle.ftl0_packets.proofs.OctetLemmas.{IsOctets-cons, IsOctets-nil, octet_at}
 
 -- the number of a number's four octets

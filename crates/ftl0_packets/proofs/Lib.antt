@@ -5,3 +5,4 @@ mod ReaderLemmas
 pub mod SplitLemmas
 mod StreamLemmas
 mod TextLemmas
+mod Names

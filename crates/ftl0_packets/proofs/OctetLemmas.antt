@@ -1,9 +1,7 @@
 -- Lists of octets, as numbers.
 use Rattle.std.proofs.Common.{ℕ, zero, suc, ◌<◌, List, [], ◌∷◌, ◌++◌, length, take, drop, slice_index, inl, inr, arith, lit<}
-use Rattle.std.proofs.lemmas.Bool.{cases_lt}
-use Rattle.std.proofs.lemmas.List.{get_or_past}
 use Rattle.std.proofs.lemmas.List.Elements.{All-append, All-cons, All-drop, All-nil, All-take}
-use Rattle.px_base.specs.Octets.{IsOctets}
+use Rattle.ftl0_packets.proofs.Names.{cases_lt, get_or_past, IsOctets}
 
 -- an octet is one
 abbrev pub IsOctet : ℕ → Type 0

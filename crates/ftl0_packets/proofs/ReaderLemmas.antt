@@ -1,14 +1,9 @@
 -- The reader's buffer: what it holds after octets are put to it, and what that says of the stream.
 use Rattle.std.proofs.Common.{◌≡◌, ℕ, ◌+◌, ◌-◌, min, ◌<◌, ◌≤◌, ◌↔◌, ◌⊎◌, List, [], ◌∷◌, ◌++◌, length, take, drop, Bool, true, false, cond, refl, inl, inr, sym, ap, ◌∙◌, subst, arith, length-append, length-take, append_assoc}
-use Rattle.std.proofs.lemmas.Bool.{cases_lt, eqb-false}
-use Rattle.std.proofs.lemmas.List.{take-append-drop, take-take, take_all}
 use Rattle.ftl0_packets.specs.declared.reader.PacketFed.{PacketFed}
 use Rattle.ftl0_packets.specs.declared.reader.PacketFed.TheVariants.{More, Whole}
-use Rattle.px_base.specs.Octets.{IsOctets}
-use Rattle.ftl0_packets.specs.Layout.{Item, PacketText}
-use Rattle.ftl0_packets.specs.Reading.{text_len, is_whole, under_way, read_item, packets_of, rest_of}
 use Rattle.ftl0_packets.specs.Filling.{IsBuffer, IsFilling}
-use Rattle.ftl0_packets.specs.Stream.{IsPartial}
+use Rattle.ftl0_packets.proofs.Names.{cases_lt, eqb-false, take-append-drop, take-take, take_all, IsOctets, Item, PacketText, text_len, is_whole, under_way, read_item, packets_of, rest_of, IsPartial}
 use Rattle.ftl0_packets.proofs.OctetLemmas.{IsOctets-append, IsOctets-take}
 use Rattle.ftl0_packets.proofs.TextLemmas.{text_len-append, text_len-whole, length-whole, IsText-PacketText, PacketText-whole}
 use Rattle.ftl0_packets.proofs.StreamLemmas.{packets_of-whole, rest_of-whole, IsPartial-less, less-IsPartial}

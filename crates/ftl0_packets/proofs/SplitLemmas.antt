@@ -3,11 +3,7 @@ use Rattle.std.proofs.Common.{◌≡◌, ℕ, List, [], ◌∷◌, ◌++◌, len
 use Rattle.std.proofs.Math.Seq.{drop-append_seam, take-append_seam}
 use Rattle.std.specs.Prelude.{IsTrue, if◌then◌else◌}
 use Rattle.std.proofs.lemmas.List.Concat.{flat_map-append}
-use Rattle.px_base.specs.Octets.{IsOctets}
-use Rattle.ftl0_packets.specs.Items.{texts}
-use Rattle.ftl0_packets.specs.Layout.{Item, PacketValue, packet_text}
-use Rattle.ftl0_packets.specs.Reading.{is_whole, packets_of, rest_of, under_way}
-use Rattle.ftl0_packets.specs.Stream.{IsPartial, Stream}
+use Rattle.ftl0_packets.proofs.Names.{IsOctets, texts, Item, PacketValue, packet_text, is_whole, packets_of, rest_of, under_way, IsPartial, Stream}
 use Rattle.ftl0_packets.proofs.OctetLemmas.{IsOctets-append, IsOctets-drop, IsOctets-nil, IsOctets-take}
 use Rattle.ftl0_packets.proofs.StreamLemmas.{one_stream}
 pub use Rattle.ftl0_packets.proofs.FrontLemmas.{read_front}

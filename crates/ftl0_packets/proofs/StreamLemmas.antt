@@ -1,12 +1,6 @@
 -- The stream of packets: its packets and its rest, read from the front, are the only ones.
 use Rattle.std.proofs.Common.{◌≡◌, ℕ, zero, suc, ◌+◌, ◌<◌, ◌≤◌, List, [], ◌∷◌, ◌++◌, length, take, drop, leb, Bool, true, false, cond, Ok, refl, inl, inr, sym, ap, ◌∙◌, subst, arith, length-append, length-drop}
-use Rattle.std.proofs.lemmas.Bool.{le-leb, lt-leb, leb-true, leb-false, eq-eqb, cases_lt}
-use Rattle.std.proofs.lemmas.List.{take_at, drop_at, take-append-drop, length-take-le, append_cancel_left}
-use Rattle.px_base.specs.Octets.{IsOctets}
-use Rattle.ftl0_packets.specs.Layout.{packet_text, Item}
-use Rattle.ftl0_packets.specs.Reading.{text_len, is_whole, read_item, packets_within, rest_within, packets_of, rest_of}
-use Rattle.ftl0_packets.specs.Stream.{IsPartial, Stream}
-use Rattle.ftl0_packets.specs.Laws.{IsReadAsStream, IsOneStream, IsReadAgain}
+use Rattle.ftl0_packets.proofs.Names.{le-leb, lt-leb, leb-true, leb-false, eq-eqb, cases_lt, take_at, drop_at, take-append-drop, length-take-le, append_cancel_left, IsOctets, packet_text, Item, text_len, is_whole, read_item, packets_within, rest_within, packets_of, rest_of, IsPartial, Stream, IsReadAsStream, IsOneStream, IsReadAgain}
 use Rattle.ftl0_packets.proofs.OctetLemmas.{IsOctets-take, IsOctets-drop}
 use Rattle.ftl0_packets.proofs.TextLemmas.{text_len-append, text_len-whole, length-whole, IsText-PacketText, PacketText-whole, one_text}
 

@@ -1,11 +1,7 @@
 -- The text of one packet: where it ends, and what it says.
 use Rattle.std.proofs.Common.{◌≡◌, ℕ, ◌+◌, ◌*◌, ◌/◌, ◌%◌, ◌<◌, ◌≤◌, List, [], ◌∷◌, ◌++◌, length, take, slice_index, Bool, true, false, cond, Ok, Err, refl, sym, ap, ◌∙◌, subst, arith}
-use Rattle.std.proofs.lemmas.Bool.{eqb-true, eq-eqb, cond-true, cond-false, false≢true}
-use Rattle.std.proofs.lemmas.List.{get_or_append_left, take_at}
 use Rattle.ftl0_packets.specs.declared.packet.Malformed.{Malformed}
-use Rattle.px_base.specs.Octets.{IsOctets}
-use Rattle.ftl0_packets.specs.Layout.{PacketValue, kind_of, information, Fits, has_length, text_of, packet_text, Item, PacketText}
-use Rattle.ftl0_packets.specs.Reading.{text_len, is_whole, packet_from, item_from, read_item}
+use Rattle.ftl0_packets.proofs.Names.{eqb-true, eq-eqb, cond-true, cond-false, false≢true, get_or_append_left, take_at, IsOctets, PacketValue, kind_of, information, Fits, has_length, text_of, packet_text, Item, PacketText, text_len, is_whole, packet_from, item_from, read_item}
 use Rattle.ftl0_packets.proofs.OctetLemmas.{IsOctets-cons, IsOctets-drop, octet_at}
 use Rattle.ftl0_packets.proofs.InformationLemmas.{packet_from-information, has_length-information, kind_of-below, length-information, IsOctets-information, packet_from-made}
 

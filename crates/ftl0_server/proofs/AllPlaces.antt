@@ -1,18 +1,6 @@
 -- Facts of each place of a server and the slot at it.
-use Rattle.std.proofs.lemmas.Grind.{common_steps}
 use Rattle.std.proofs.Common.{◌≡◌, ◌≢◌, ℕ, zero, suc, List, [], ◌∷◌, length, set, Bool, false, not, None, Some, refl, sym, ap, subst, arith}
-use Rattle.std.specs.Prelude.{slice_get}
-use Rattle.std.specs.List.{position, prefix_len}
-use Rattle.std.proofs.lemmas.Option.{same_Some}
-use Rattle.ax25_link.specs.Kept.{StandsFor, is_pending}
-use Rattle.ax25_link.specs.Window.{Window}
-use Rattle.packet_link.specs.PacketLink.{PacketLinkState}
-use Rattle.ftl0_server.specs.Connection.Connected.{Connected}
-use Rattle.ftl0_server.specs.Connection.ConnectionState.{ConnectionState}
-use Rattle.ftl0_server.specs.declared.place.Place.{Place}
-use Rattle.ftl0_server.specs.declared.place.Place.TheVariants.{Talking, Vacant}
-use Rattle.ftl0_server.specs.ServerState.{AllPlaces, SendsAs}
-use Rattle.ftl0_server.specs.Slots.{Slot, connected, free, leaving}
+use Rattle.ftl0_server.proofs.Names.{common_steps, slice_get, position, prefix_len, same_Some, StandsFor, is_pending, Window, PacketLinkState, Connected, ConnectionState, Place, Talking, Vacant, AllPlaces, SendsAs, Slot, connected, free, leaving}
 
 pub never : {X : Type 0} (x : X) → None ≡ Some x → ⊥
 never x same = cc

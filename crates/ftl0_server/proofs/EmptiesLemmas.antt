@@ -1,20 +1,9 @@
 -- Each server comes to send nothing.
-use Rattle.std.proofs.lemmas.Grind.{common_steps}
 use Rattle.std.proofs.Common.{◌≡◌, ◌⊎◌, ℕ, zero, suc, ◌+◌, ◌<◌, ◌≤◌, List, [], ◌∷◌, Option, None, Some, refl, sym, ap₂, subst, inl, inr, arith}
 use Rattle.std.specs.Option.{option_map}
-use Rattle.ax25_frames.specs.FrameText.{FrameValue}
-use Rattle.ax25_link.specs.Ends.{IsEnd, LinkEnd}
-use Rattle.ax25_link.specs.Kept.{count_of}
 use Rattle.ax25_link.specs.Sending.{Sending, next_sending}
-use Rattle.ax25_link.specs.Window.{Window}
-use Rattle.ax25_link.proofs.Offered.{left_to_send, next_sending-Sends}
-use Rattle.ftl0_server.specs.AtPlace.{AllFit, PlaceFits}
-use Rattle.ftl0_server.specs.declared.place.Place.{Place}
 use Rattle.ftl0_server.specs.Fits.{SlotFits, SlotsFit}
-use Rattle.ftl0_server.specs.Server.{IsSilent, Refused, Server, ServerSends, sends_by, sends_of_places, server_next, settled}
-use Rattle.ftl0_server.specs.ServerState.{AllPlaces, SendsAs, SendsFor, ServerState}
-use Rattle.ftl0_server.specs.ServerStep.{Empties}
-use Rattle.ftl0_server.specs.Slots.{PlacesSend, Slot, SlotSends, all_freed, connected, first_of, free, freed, leaving, places_next, slot_next, slot_sends}
+use Rattle.ftl0_server.proofs.Names.{common_steps, FrameValue, IsEnd, LinkEnd, count_of, Window, left_to_send, next_sending-Sends, AllFit, PlaceFits, Place, IsSilent, Refused, Server, ServerSends, sends_by, sends_of_places, server_next, settled, AllPlaces, SendsAs, SendsFor, ServerState, Empties, PlacesSend, Slot, SlotSends, all_freed, connected, first_of, free, freed, leaving, places_next, slot_next, slot_sends}
 use Rattle.ftl0_server.proofs.AllPlaces.{by-pairs, never, sends-cases}
 
 -- ---- fewer frames are left

@@ -1,13 +1,6 @@
 -- Ending places one after another.
 use Rattle.std.proofs.Common.{◌≡◌, ◌≢◌, ℕ, zero, suc, ◌<◌, List, [], ◌∷◌, length, get_or, drop, refl, sym, subst, arith}
-use Rattle.file_store.specs.State.{StoreState}
-use Rattle.ftl0_session.specs.Uploads.SessionState.{IsHeld}
-use Rattle.ftl0_session.specs.SessionState.{caller_of}
-use Rattle.ftl0_server.specs.Connection.ConnectionState.{ConnectionState}
-use Rattle.ftl0_server.specs.AtPlace.{HasEnded, MayAllEnd, MayEnd}
-use Rattle.ftl0_server.specs.declared.place.Place.{Place}
-use Rattle.ftl0_server.specs.declared.place.Place.TheVariants.{Moving, Talking, Vacant}
-use Rattle.ftl0_server.specs.Kept.{AreDistinct, IsAt}
+use Rattle.ftl0_server.proofs.Names.{StoreState, IsHeld, caller_of, ConnectionState, HasEnded, MayAllEnd, MayEnd, Place, Moving, Talking, Vacant, AreDistinct, IsAt}
 use Rattle.ftl0_server.proofs.SettledLemmas.{held-kept}
 
 -- the place at this index may be ended

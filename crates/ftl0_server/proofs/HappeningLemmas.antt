@@ -1,26 +1,8 @@
 -- What an event makes of a server: where no write and no sync fails no commands are cut off, and the store is the one
 -- after its commands.
-use Rattle.std.proofs.lemmas.Grind.{common_steps}
 use Rattle.std.proofs.Common.{◌≡◌, ℕ, suc, List, [], ◌∷◌, Bool, Option, Some, refl, ap, ◌∙◌, arith}
 use Rattle.std.specs.Prelude.{if◌then◌else◌}
-use Rattle.px_base.specs.CallSign.{CallSign}
-use Rattle.ax25_frames.specs.FrameText.{FrameValue}
-use Rattle.ax25_link.specs.Calls.{after_push}
-use Rattle.ax25_link.specs.Ends.{LinkEnd}
-use Rattle.ftl0_packets.specs.Items.{texts}
-use Rattle.ftl0_packets.specs.Layout.{Item}
-use Rattle.ftl0_session.specs.Lists.Lists.{CallerList}
-use Rattle.ftl0_session.specs.Uploads.Failures.{Failure, failed_reads}
-use Rattle.ftl0_session.specs.Table.{Row, State, row_at}
-use Rattle.ftl0_session.specs.Run.{session_over}
-use Rattle.ftl0_session.proofs.WorkingLemmas.{writes-unlisted}
-use Rattle.file_store.specs.Command.{after_all}
-use Rattle.file_store.specs.Store.{Store}
-use Rattle.node.specs.Events.{NodeEvent}
-use Rattle.ftl0_server.specs.Connection.Taking.{taking}
-use Rattle.ftl0_server.specs.Server.{Refused, Server, ServerSends, hearing_at, sends_by}
-use Rattle.ftl0_server.specs.ServerStep.{Empties, happening}
-use Rattle.ftl0_server.specs.Slots.{Slot, connected}
+use Rattle.ftl0_server.proofs.Names.{common_steps, CallSign, FrameValue, after_push, LinkEnd, texts, Item, CallerList, Failure, failed_reads, Row, State, row_at, session_over, writes-unlisted, after_all, Store, NodeEvent, taking, Refused, Server, ServerSends, hearing_at, sends_by, Empties, happening, Slot, connected}
 use Rattle.ftl0_server.proofs.connection.QueuingLemmas.{queued-keeps}
 
 -- ---- where no write and no sync fails no commands are cut off

@@ -1,38 +1,9 @@
 -- What a frame makes of a server, by what it makes of one place.
-use Rattle.std.proofs.lemmas.Grind.{common_steps}
 use Rattle.std.proofs.Common.{◌≡◌, ◌⊎◌, ℕ, zero, suc, ◌<◌, List, [], ◌∷◌, length, get_or, set, Bool, true, false, Option, rules, None, Some, refl, sym, ◌∙◌, ap, subst, inl, inr, arith}
-use Rattle.std.specs.Prelude.{slice_get, ⊤, Result, Ok, Err, IsErr}
-use Rattle.std.specs.List.{position}
 use Rattle.std.proofs.lemmas.List.Quantifiers.{position-Some}
-use Rattle.std.proofs.lemmas.Option.{slice_get-get_or}
-use Rattle.px_base.specs.CallSign.{CallSign}
-use Rattle.disk_model.specs.declared.disk.Disk.{Ghosts}
-use Rattle.ax25_frames.specs.FrameText.{FrameValue}
 use Rattle.ax25_frames.specs.Kinds.{FitsControl}
-use Rattle.ftl0_session.specs.Lists.Lists.{CallerList}
-use Rattle.file_store.specs.Store.{Store}
-use Rattle.file_store.specs.State.{IsKnown, IsReady, StoreState, store_on}
-use Rattle.file_store.specs.Working.{DoesAmongReads}
-use Rattle.file_store.proofs.Offered.{puts-among, puts_none}
-use Rattle.file_store.specs.Command.{after_all}
-use Rattle.ftl0_session.specs.Uploads.Failures.{Failure}
-use Rattle.ftl0_session.proofs.uploads.UploadRows.{same_call-decides}
-use Rattle.ftl0_session.specs.SessionState.{caller_of, working_on}
-use Rattle.disk_model.specs.AtDisk.{at}
-use Rattle.disk_model.specs.declared.disk.DiskFault.{DiskFault}
-use Rattle.ftl0_server.specs.Connection.Connected.{Connected}
-use Rattle.ftl0_server.specs.Connection.ConnectionState.{ConnectionState, with_reads}
-use Rattle.ftl0_server.specs.Connection.Hearing.{Happened, LooksAtNone, hearing}
-use Rattle.node.specs.Events.{IsFor, hears}
-use Rattle.ftl0_server.specs.AtPlace.{IsPlace, KeepsStore, MayHear, PlaceHears, PlaceHearsBy, Works}
-use Rattle.ftl0_server.specs.Calls.{Hears, HearsBy, HearsEvent, HearsStranger, SameStore}
-use Rattle.ftl0_server.specs.declared.place.Place.{Place}
-use Rattle.ftl0_server.specs.declared.place.Place.TheVariants.{Moving, Talking}
-use Rattle.ftl0_server.specs.Kept.{IsAt, IsSettled}
-use Rattle.ftl0_server.specs.Server.{Server, becoming, heard_at, hearing_at, hearing_by, hearing_stranger}
-use Rattle.ftl0_server.specs.ServerStep.{LooksAtNoFile, LooksAtNoneAt, LooksAtNoneBy, happening}
-use Rattle.ftl0_server.specs.ServerState.{AllPlaces, IsServer, SaysAs, SendsAs, SendsFor, ServerState, any_pending, has_caller, is_empty_place, place_pending}
-use Rattle.ftl0_server.specs.Slots.{Slot, connected, first_empty, is_callers, place_of, slot_after}
+use Rattle.ftl0_server.specs.Calls.{HearsBy}
+use Rattle.ftl0_server.proofs.Names.{common_steps, slice_get, ⊤, Result, Ok, Err, IsErr, position, slice_get-get_or, CallSign, Ghosts, FrameValue, CallerList, Store, IsKnown, IsReady, StoreState, store_on, DoesAmongReads, puts-among, puts_none, after_all, Failure, same_call-decides, caller_of, working_on, at, DiskFault, Connected, ConnectionState, with_reads, Happened, LooksAtNone, hearing, IsFor, hears, IsPlace, KeepsStore, MayHear, PlaceHears, PlaceHearsBy, Works, Hears, HearsEvent, HearsStranger, SameStore, Place, Moving, Talking, IsAt, IsSettled, Server, becoming, heard_at, hearing_at, hearing_by, hearing_stranger, LooksAtNoFile, LooksAtNoneAt, LooksAtNoneBy, happening, AllPlaces, IsServer, SaysAs, SendsAs, SendsFor, ServerState, any_pending, has_caller, is_empty_place, place_pending, Slot, connected, first_empty, is_callers, place_of, slot_after}
 use Rattle.ftl0_server.proofs.AllPlaces.{all-both, all-get, all-set, all-to, never, same-position}
 use Rattle.ftl0_server.proofs.connection.HearLemmas.{gives-nothing, nothing-done as does-nothing}
 use Rattle.ftl0_server.proofs.connection.FeedLemmas.{fine, no-fault}

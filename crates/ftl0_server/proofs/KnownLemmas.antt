@@ -1,9 +1,8 @@
 -- Whether it is known what octets the store's files have.
 use Rattle.std.proofs.Common.{◌≡◌, ◌⊎◌, inl, inr, ℕ, List, Option, None, Some, refl}
 use Rattle.disk_model.specs.Disk.{IsTold}
-use Rattle.disk_model.specs.declared.disk.Disk.{Ghosts}
 use Rattle.file_store.specs.Layout.TheVariants as layout
-use Rattle.file_store.specs.State.{IsKnown, store_form}
+use Rattle.ftl0_server.proofs.Names.{Ghosts, IsKnown, store_form}
 
 -- what is known of a disk of this content
 abbrev Knows : Option (List ℕ) → Type 0

@@ -16,3 +16,4 @@ mod StepLemmas
 mod TickLemmas
 pub use Rattle.ftl0_packets.proofs.OctetLemmas
 pub use Rattle.ftl0_session.proofs.WorkingLemmas
+mod Names

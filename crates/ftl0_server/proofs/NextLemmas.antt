@@ -1,14 +1,7 @@
 -- What the places of a server send next.
-use Rattle.std.proofs.lemmas.Grind.{common_steps}
 use Rattle.std.proofs.Common.{◌≡◌, ℕ, zero, suc, ◌<◌, List, [], ◌∷◌, set, take, Bool, true, false, Option, None, Some, refl, sym, subst, arith}
-use Rattle.std.specs.Prelude.{slice_get, ◌||◌}
-use Rattle.std.proofs.lemmas.Option.{same_Some}
-use Rattle.ax25_link.specs.Window.{Window}
-use Rattle.ftl0_server.specs.Calls.{SamePlaces}
-use Rattle.ftl0_server.specs.Places.{GivesOut, PlacesGive, SamePlace}
-use Rattle.ftl0_server.specs.declared.place.Place.{Place}
-use Rattle.ftl0_server.specs.ServerState.{AllPlaces, SendsAs, any_pending, place_most, place_pending, places_most}
-use Rattle.ftl0_server.specs.Slots.{PlacesSend, Slot, first_of, places_next, slot_next}
+use Rattle.std.specs.Prelude.{◌||◌}
+use Rattle.ftl0_server.proofs.Names.{common_steps, slice_get, same_Some, Window, SamePlaces, GivesOut, PlacesGive, SamePlace, Place, AllPlaces, SendsAs, any_pending, place_most, place_pending, places_most, PlacesSend, Slot, first_of, places_next, slot_next}
 use Rattle.ftl0_server.proofs.AllPlaces.{by-pairs, never}
 
 pub true_no : {X : Type 0} → true ≡ false → X

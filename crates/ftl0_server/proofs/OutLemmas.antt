@@ -1,24 +1,7 @@
 -- Frames are given out, and then nothing is pending.
-use Rattle.std.proofs.lemmas.Grind.{common_steps}
 use Rattle.std.proofs.Common.{◌≡◌, ℕ, zero, suc, List, [], ◌∷◌, map, Bool, true, false, Option, None, Some, sym, rules, ◌∙◌, subst, arith}
-use Rattle.std.specs.Prelude.{All, ⊤}
-use Rattle.std.proofs.lemmas.List.Elements.{All-cons, All-nil}
-use Rattle.std.proofs.lemmas.Option.{same_Some}
-use Rattle.px_base.specs.CallSign.{CallSign}
-use Rattle.ax25_frames.specs.FrameText.{FrameText, canonical}
 use Rattle.ax25_link.specs.Refusals.{refusal_frame}
-use Rattle.ax25_link.specs.Window.{Window}
-use Rattle.file_store.specs.State.{StoreState}
-use Rattle.file_store.specs.Store.{Store}
-use Rattle.ftl0_server.specs.Connection.ConnectionState.{ConnectionState}
-use Rattle.ftl0_server.specs.declared.place.Place.{Place}
-use Rattle.ftl0_server.specs.declared.place.Place.TheVariants.{Talking}
-use Rattle.ftl0_server.specs.Calls.{HandsOut, SamePlaces}
-use Rattle.ftl0_server.specs.Kept.{HasLink, IsAt, IsSettled}
-use Rattle.ftl0_server.specs.Places.{PlacesGive, SamePlace, SameTalk}
-use Rattle.ftl0_server.specs.Server.{Refused, Server, sends_by, sends_of_places, server_next, settled}
-use Rattle.ftl0_server.specs.ServerState.{AllPlaces, IsServer, SaysAs, SendsAs, SendsFor, ServerState, any_pending, place_pending}
-use Rattle.ftl0_server.specs.Slots.{PlacesSend, Slot, SlotSends, first_of, freed, places_next, slot_next}
+use Rattle.ftl0_server.proofs.Names.{common_steps, All, ⊤, All-cons, All-nil, same_Some, CallSign, FrameText, canonical, Window, StoreState, Store, ConnectionState, Place, Talking, HandsOut, SamePlaces, HasLink, IsAt, IsSettled, PlacesGive, SamePlace, SameTalk, Refused, Server, sends_by, sends_of_places, server_next, settled, AllPlaces, IsServer, SaysAs, SendsAs, SendsFor, ServerState, any_pending, place_pending, PlacesSend, Slot, SlotSends, first_of, freed, places_next, slot_next}
 use Rattle.ftl0_server.proofs.AllPlaces.{by-pairs, never}
 use Rattle.ftl0_server.proofs.NextLemmas.{none_first}
 

@@ -1,32 +1,7 @@
 -- What an event at one place leaves.
-use Rattle.std.proofs.lemmas.Grind.{common_steps}
 use Rattle.std.proofs.Common.{◌≡◌, List, [], Bool, true, false, sym, ◌∙◌, subst, arith}
-use Rattle.std.specs.Prelude.{⊤, Result, Ok, Err}
-use Rattle.px_base.specs.CallSign.{CallSign}
-use Rattle.disk_model.specs.declared.disk.Disk.{Ghosts}
-use Rattle.ax25_link.specs.declared.state.LinkState.TheVariants.{Down}
-use Rattle.ax25_link.specs.Kept.{SameStations, StandsFor}
-use Rattle.ax25_link.specs.Window.{Window}
-use Rattle.packet_link.specs.PacketLink.{PacketLinkState}
-use Rattle.file_store.specs.State.{StoreState}
-use Rattle.ftl0_session.specs.Lists.Lists.{CallerList}
-use Rattle.file_store.proofs.Offered.{among-parked, on_parked}
-use Rattle.ftl0_session.specs.Uploads.Failures.{Failure, failed_write}
-use Rattle.ftl0_session.specs.Uploads.Others.{KeepsOtherCallers}
-use Rattle.disk_model.specs.AtDisk.{AtDisk, at}
-use Rattle.ftl0_session.specs.Uploads.SessionState.{IsOnlyOut}
-use Rattle.ftl0_session.specs.SessionState.{caller_of, working_on}
-use Rattle.disk_model.specs.declared.disk.DiskFault.{DiskFault}
-use Rattle.ftl0_server.specs.Connection.ConnectionState.{ConnectionState, Hears, HearsBy, IsConnection, with_reads}
-use Rattle.ftl0_server.specs.declared.connection.fate.Fate.{Fate}
-use Rattle.ftl0_server.specs.declared.connection.fate.Fate.TheVariants.{Ends, Stays}
-use Rattle.ftl0_server.specs.Connection.Connected.{Connected}
-use Rattle.ftl0_server.specs.Connection.Hearing.{Happened}
-use Rattle.ftl0_server.specs.AtPlace.{GivesUp, IsOver, IsPlace, PlaceHears, PlaceHearsBy, Works}
-use Rattle.ftl0_server.specs.declared.place.Place.{Place}
-use Rattle.ftl0_server.specs.declared.place.Place.TheVariants.{Vacant, Talking}
-use Rattle.ftl0_server.specs.ServerState.{SendsAs}
-use Rattle.ftl0_server.specs.Slots.{connected, left_by, slot_after}
+use Rattle.ftl0_server.specs.Connection.ConnectionState.{Hears}
+use Rattle.ftl0_server.proofs.Names.{common_steps, ⊤, Result, Ok, Err, CallSign, Ghosts, Down, SameStations, StandsFor, Window, PacketLinkState, StoreState, CallerList, among-parked, on_parked, Failure, failed_write, KeepsOtherCallers, AtDisk, at, IsOnlyOut, caller_of, working_on, DiskFault, ConnectionState, HearsBy, IsConnection, with_reads, Fate, Ends, Stays, Connected, Happened, GivesUp, IsOver, IsPlace, PlaceHears, PlaceHearsBy, Works, Place, Vacant, Talking, SendsAs, connected, left_by, slot_after}
 use Rattle.ftl0_server.proofs.connection.HearLemmas.{parks-same}
 
 -- What two events one after another leave of the files of other callers.

@@ -1,31 +1,6 @@
 -- A connection is seated at a place that has no session.
-use Rattle.std.proofs.lemmas.Grind.{common_steps}
 use Rattle.std.proofs.Common.{◌≡◌, ◌≢◌, ℕ, zero, suc, ◌+◌, ◌<◌, List, [], ◌∷◌, length, set, cond, get_or, Bool, true, false, not, Option, None, Some, refl, sym, ◌∙◌, ap, subst, inl, inr, arith}
-use Rattle.std.specs.Prelude.{slice_get}
-use Rattle.std.specs.List.{position, prefix_len}
-use Rattle.std.proofs.lemmas.Bool.{lt-ltb}
-use Rattle.std.proofs.lemmas.List.Elements.{All-get_or, All-set}
-use Rattle.std.proofs.lemmas.Option.{slice_get-get_or}
-use Rattle.px_base.specs.CallSign.{CallSign}
-use Rattle.ax25_link.specs.Kept.{Kept, is_pending}
-use Rattle.ax25_link.proofs.Offered.{slice_get-set_other, slice_get-set_same}
-use Rattle.packet_link.specs.PacketLink.{PacketLinkState}
-use Rattle.file_store.specs.State.{StoreState}
-use Rattle.file_store.specs.Store.{Store}
-use Rattle.ftl0_session.specs.Uploads.SessionState.{NoOtherOut, number_of}
-use Rattle.ftl0_session.proofs.uploads.UploadRows.{same_call-decides}
-use Rattle.ftl0_session.specs.Lists.Lists.{has_left}
-use Rattle.ftl0_session.specs.SessionState.{SessionState, caller_of}
-use Rattle.ftl0_server.specs.AtPlace.{HasBegun, MayBegin}
-use Rattle.ftl0_server.specs.Calls.{AwaitsStranger}
-use Rattle.ftl0_server.specs.Connection.Connected.{Connected, answering}
-use Rattle.ftl0_server.specs.Connection.ConnectionState.{ConnectionState, IsAnswered, IsConnection}
-use Rattle.ftl0_server.specs.declared.place.Place.{Place}
-use Rattle.ftl0_server.specs.declared.place.Place.TheVariants.{Moving, Talking, Vacant}
-use Rattle.ftl0_server.specs.Kept.{HasLink, IsAt, IsSeated, IsSettled, IsUploadOf, IsVacant}
-use Rattle.ftl0_server.specs.Server.{Server, called_by, with_slot}
-use Rattle.ftl0_server.specs.ServerState.{IsServer, ServerState, has_caller, is_empty_place, place_pending}
-use Rattle.ftl0_server.specs.Slots.{connected}
+use Rattle.ftl0_server.proofs.Names.{common_steps, slice_get, position, prefix_len, lt-ltb, All-get_or, All-set, slice_get-get_or, CallSign, Kept, is_pending, slice_get-set_other, slice_get-set_same, PacketLinkState, StoreState, Store, NoOtherOut, number_of, same_call-decides, has_left, SessionState, caller_of, HasBegun, MayBegin, AwaitsStranger, Connected, answering, ConnectionState, IsAnswered, IsConnection, Place, Moving, Talking, Vacant, HasLink, IsAt, IsSeated, IsSettled, IsUploadOf, IsVacant, Server, called_by, with_slot, IsServer, ServerState, has_caller, is_empty_place, place_pending, connected}
 use Rattle.ftl0_server.proofs.AllPlaces.{all-set, never}
 use Rattle.ftl0_server.proofs.HearLemmas.{found-passes, found-within, quiet-any}
 use Rattle.ftl0_server.proofs.SettledLemmas.{at-set, same-call}

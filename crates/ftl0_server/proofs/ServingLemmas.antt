@@ -1,16 +1,7 @@
 -- A server over events, and others behind them; and its store is the one after its commands.
-use Rattle.std.proofs.lemmas.Grind.{common_steps}
 use Rattle.std.proofs.Common.{◌≡◌, ℕ, ◌+◌, List, [], ◌∷◌, ◌++◌, refl, ap, sym, ◌∙◌, append_assoc, arith, rules}
-use Rattle.std.proofs.Math.Nat.{add_assoc, zero-add}
-use Rattle.ax25_frames.specs.FrameText.{FrameValue}
-use Rattle.file_store.specs.Command.{Command, after_all}
-use Rattle.file_store.specs.Store.{Store}
-use Rattle.file_store.proofs.Offered.{after_all-append}
-use Rattle.node.specs.Events.{NodeEvent}
-use Rattle.ftl0_session.specs.Uploads.Failures.{failed_reads}
-use Rattle.ftl0_server.specs.Server.{Server}
-use Rattle.ftl0_server.specs.ServerStep.{happening}
 use Rattle.ftl0_server.specs.Serving.{ServerComesTo, ServesLaw, ServesOver, TakesEvent}
+use Rattle.ftl0_server.proofs.Names.{common_steps, add_assoc, zero-add, FrameValue, Command, after_all, Store, after_all-append, NodeEvent, failed_reads, Server, happening}
 use Rattle.ftl0_server.proofs.HappeningLemmas.{empties_store, happening_store}
 
 -- one event

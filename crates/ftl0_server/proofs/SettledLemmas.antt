@@ -1,32 +1,10 @@
 -- What holds of each server stays so, whatever happens at one place.
-use Rattle.std.proofs.lemmas.Grind.{common_steps}
 use Rattle.std.proofs.Common.{◌≡◌, ◌≢◌, ◌⊎◌, ℕ, zero, suc, ◌<◌, List, [], ◌∷◌, length, get_or, set, Bool, true, false, Option, rules, None, Some, refl, sym, ◌∙◌, ap, subst, inl, inr, arith}
-use Rattle.std.specs.Prelude.{slice_get}
-use Rattle.std.proofs.lemmas.Bool.Decides.{eqb_tells}
-use Rattle.std.proofs.lemmas.List.Elements.{All-set}
-use Rattle.std.proofs.lemmas.Option.{same_Some, slice_get_within}
-use Rattle.px_base.specs.CallSign.{CallSign}
-use Rattle.ax25_link.proofs.Offered.{slice_get-set_other, slice_get-set_same}
-use Rattle.packet_link.specs.PacketLink.{PacketLinkState}
-use Rattle.file_store.specs.EntriesKept.{KeepsComplete}
-use Rattle.file_store.specs.Store.{partial}
-use Rattle.file_store.specs.State.{StoreState, store_in}
 use Rattle.file_store.specs.Upload.{entry_for}
-use Rattle.ftl0_session.specs.Uploads.Others.{KeepsOtherCallers}
 use Rattle.ftl0_session.specs.Uploads.Session.{is_same_call}
-use Rattle.ftl0_session.specs.Uploads.SessionState.{NoOtherOut, PhaseIsHeld, state_of}
-use Rattle.ftl0_session.specs.declared.uploads.phase.Phase.{Phase}
 use Rattle.ftl0_session.specs.declared.uploads.phase.Phase.TheVariants as phase
-use Rattle.ftl0_session.proofs.uploads.UploadRows.{same_call-decides}
 use Rattle.ftl0_session.proofs.downloads.DueLemmas.{due-kept}
-use Rattle.ftl0_session.specs.SessionState.{caller_of}
-use Rattle.ftl0_server.specs.Connection.ConnectionState.{ConnectionState}
-use Rattle.ftl0_server.specs.AtPlace.{GoesOn, IsVacated, Works}
-use Rattle.ftl0_server.specs.declared.place.Place.{Place}
-use Rattle.ftl0_server.specs.declared.place.Place.TheVariants.{Moving, Talking, Vacant}
-use Rattle.ftl0_server.specs.Kept.{HasLink, IsAt, IsSeated, IsSettled, IsUploadOf, IsVacant}
-use Rattle.ftl0_server.specs.ServerState.{SaysAs}
-use Rattle.ftl0_server.specs.Slots.{Slot}
+use Rattle.ftl0_server.proofs.Names.{common_steps, slice_get, eqb_tells, All-set, same_Some, slice_get_within, CallSign, slice_get-set_other, slice_get-set_same, PacketLinkState, KeepsComplete, partial, StoreState, store_in, KeepsOtherCallers, NoOtherOut, PhaseIsHeld, state_of, Phase, same_call-decides, caller_of, ConnectionState, GoesOn, IsVacated, Works, Place, Moving, Talking, Vacant, HasLink, IsAt, IsSeated, IsSettled, IsUploadOf, IsVacant, SaysAs, Slot}
 
 bool-cases : (b : Bool) → (b ≡ true) ⊎ (b ≡ false)
 bool-cases b = grind (arith, common_steps)

@@ -1,11 +1,9 @@
 -- What the recovery of the store refuses, said of the start.
 use Rattle.std.proofs.Common.{◌≡◌, ◌↔◌, ℕ, List, Option, inl, inr, sym, ◌∙◌, ap}
-use Rattle.std.specs.Prelude.{Result, Ok, Err, IsErrOf}
-use Rattle.disk_model.specs.declared.disk.Disk.{Ghosts}
-use Rattle.file_store.proofs.Offered.{told_weaker}
 use Rattle.file_store.specs.Recovery.{LeavesAlikeSinceSync, RefusesRecovery}
 use Rattle.file_store.specs.StoreFault.{StoreFault}
 use Rattle.file_store.specs.StoreFault.TheVariants as fault
+use Rattle.ftl0_server.proofs.Names.{Result, Ok, Err, IsErrOf, Ghosts, told_weaker}
 
 -- two answers of which each is the same fault as the other, if it is one
 abbrev pub FaultsAlike : {A B : Type 0} → Result A StoreFault → Result B StoreFault → Type 0

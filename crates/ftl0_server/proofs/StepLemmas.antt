@@ -1,16 +1,7 @@
 -- A tick at each place makes the server's tick; and what a frame of a station without a connection is.
-use Rattle.std.proofs.lemmas.Grind.{common_steps}
 use Rattle.std.proofs.Common.{◌≡◌, ℕ, List, map, Bool, true, false, sym, ◌∙◌, ap, arith}
 use Rattle.std.specs.Prelude.{if◌then◌else◌, ◌&&◌}
-use Rattle.ax25_frames.specs.FrameText.{FrameValue}
-use Rattle.ax25_link.specs.Rows.{is_call}
-use Rattle.file_store.specs.State.{StoreState}
-use Rattle.file_store.specs.Store.{Store}
-use Rattle.ftl0_server.specs.AtPlace.{IsPlace}
-use Rattle.ftl0_server.specs.declared.place.Place.{Place}
-use Rattle.ftl0_server.specs.Server.{Server, called_by, hearing_stranger, refusing, server_ticking}
-use Rattle.ftl0_server.specs.ServerState.{AllPlaces, IsServer, ServerState}
-use Rattle.ftl0_server.specs.Slots.{first_empty, slot_ticking}
+use Rattle.ftl0_server.proofs.Names.{common_steps, FrameValue, is_call, StoreState, Store, IsPlace, Place, Server, called_by, hearing_stranger, refusing, server_ticking, AllPlaces, IsServer, ServerState, first_empty, slot_ticking}
 use Rattle.ftl0_server.proofs.AllPlaces.{all-to}
 
 pub server-ticked : (over : Store) (old : ServerState) (server : Server) (places : List Place) (store : StoreState) → IsServer over old server

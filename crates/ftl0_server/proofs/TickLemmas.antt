@@ -1,20 +1,6 @@
 -- Ticks at the first places of a server.
-use Rattle.std.proofs.lemmas.Grind.{common_steps}
 use Rattle.std.proofs.Common.{◌≡◌, ℕ, zero, suc, List, [], ◌∷◌, length, set, drop, map, false, Some, refl, sym, ap, arith}
-use Rattle.std.specs.Prelude.{slice_get}
-use Rattle.std.proofs.lemmas.Option.{same_Some}
-use Rattle.px_base.specs.CallSign.{CallSign}
-use Rattle.ax25_link.specs.Window.{Window}
-use Rattle.file_store.specs.State.{StoreState}
-use Rattle.ftl0_session.specs.Uploads.SessionState.{IsOnlyOut, number_of}
-use Rattle.ftl0_session.specs.SessionState.{caller_of}
-use Rattle.ftl0_server.specs.Connection.ConnectionState.{ConnectionState}
-use Rattle.ftl0_server.specs.AtPlace.{IsPlace, MayTick, Works}
-use Rattle.ftl0_server.specs.declared.place.Place.{Place}
-use Rattle.ftl0_server.specs.declared.place.Place.TheVariants.{Moving, Talking, Vacant}
-use Rattle.ftl0_server.specs.Kept.{IsAt, IsSettled}
-use Rattle.ftl0_server.specs.ServerState.{AllPlaces, any_pending, place_pending}
-use Rattle.ftl0_server.specs.Slots.{Slot, slot_ticking}
+use Rattle.ftl0_server.proofs.Names.{common_steps, slice_get, same_Some, CallSign, Window, StoreState, IsOnlyOut, number_of, caller_of, ConnectionState, IsPlace, MayTick, Works, Place, Moving, Talking, Vacant, IsAt, IsSettled, AllPlaces, any_pending, place_pending, Slot, slot_ticking}
 use Rattle.ftl0_server.proofs.AllPlaces.{all-set-to, never}
 use Rattle.ftl0_server.proofs.NextLemmas.{none_first}
 use Rattle.ftl0_server.proofs.SettledLemmas.{says-kept}

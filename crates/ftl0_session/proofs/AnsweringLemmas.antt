@@ -1,27 +1,13 @@
 -- The answer to a packet while it is sent: its parts whose reads failed, what is due of it, and how much is left.
 use Rattle.std.proofs.Common.{◌≡◌, ℕ, suc, List, [], ◌∷◌, ◌+◌, ◌++◌, ◌==◌, ◌<◌, ◌≤◌, length, take, Bool, true, false, ◌&&◌, ◌||◌, Option, None, Some, refl, ap, ap₂, sym, ◌∙◌, subst, append-nil, append_assoc, length-append, length-drop, arith}
-use Rattle.std.specs.Option.{option_map}
 use Rattle.std.specs.Prelude.{if◌then◌else◌}
-use Rattle.std.proofs.lemmas.Bool.Decides.{nat_tests}
-use Rattle.px_base.specs.CallSign.{CallSign}
-use Rattle.ftl0_packets.specs.Layout.{PacketValue, data_end, data_part, dl_error_resp}
-use Rattle.file_store.specs.Command.{Command, after_all}
-use Rattle.file_store.specs.State.{StoreState}
-use Rattle.file_store.specs.Store.{Store}
-use Rattle.ftl0_session.specs.declared.uploads.phase.Phase.{Phase}
 use Rattle.ftl0_session.specs.declared.uploads.phase.Phase.TheVariants as phase
 use Rattle.ftl0_session.specs.Answering.{IsAnswering, SendsSome, SendsTo, met_with, octets_left}
-use Rattle.ftl0_session.specs.Lists.Lists.{CallerList}
-use Rattle.ftl0_session.specs.Uploads.Events.{Event as Heard}
-use Rattle.ftl0_session.specs.Downloads.Needs.{IsDueIn}
-use Rattle.ftl0_session.specs.Downloads.Sending.{is_due, is_read, octets_due, state_after, state_at_end}
 use Rattle.ftl0_session.specs.Downloads.Sending as due
-use Rattle.ftl0_session.specs.Downloads.Table.{DownloadState, listing, ready, sending, waiting}
-use Rattle.ftl0_session.specs.Run.{RunsOver, Sends, Session, event_row, session_over}
-use Rattle.ftl0_session.specs.SessionState.{SessionState, state_in}
-use Rattle.ftl0_session.specs.Table.{DuePacket, Row, State, session_row, download_part, due_at, in_session, next_due, state_by}
-use Rattle.ftl0_session.specs.Uploads.Failures.{Failure, failed_reads, read_fails}
-use Rattle.ftl0_session.specs.Uploads.SessionState.{state_of}
+use Rattle.ftl0_session.specs.Run.{Sends}
+use Rattle.ftl0_session.specs.SessionState.{SessionState}
+use Rattle.ftl0_session.specs.Table.{session_row}
+use Rattle.ftl0_session.proofs.Names.{option_map, nat_tests, CallSign, PacketValue, data_end, data_part, dl_error_resp, Command, after_all, StoreState, Store, Phase, CallerList, Event as Heard, IsDueIn, is_due, is_read, octets_due, state_after, state_at_end, DownloadState, listing, ready, sending, waiting, RunsOver, Session, event_row, session_over, state_in, DuePacket, Row, State, download_part, due_at, in_session, next_due, state_by, Failure, failed_reads, read_fails, state_of}
 use Rattle.ftl0_session.proofs.RowLemmas.{download_part-is}
 use Rattle.ftl0_session.proofs.downloads.DueLemmas.{octets_due-after}
 use Rattle.ftl0_session.proofs.downloads.SentLemmas.{is_due-after}

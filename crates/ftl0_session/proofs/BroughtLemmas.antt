@@ -2,10 +2,9 @@
 use Rattle.std.proofs.Common.{◌≡◌, ℕ, List, [], ◌∷◌, ◌++◌, refl, ap, sym, ◌∙◌, subst, append_assoc, append-nil}
 use Rattle.px_base.specs.Polling.{octets_heard, octets_of_turn}
 use Rattle.px_base.specs.declared.air.Turn.{Turn}
-use Rattle.ftl0_packets.specs.Layout.{Item}
 use Rattle.ftl0_packets.specs.Stream.{IsPartial, Stream}
 use Rattle.ftl0_packets.proofs.SplitLemmas.{stream-append, stream-partial}
-use Rattle.ftl0_session.specs.Uploads.Events.{Brings, Event, at_moment, packets_in}
+use Rattle.ftl0_session.proofs.Names.{Item, Brings, Event, at_moment, packets_in}
 
 -- the packets of packets at a moment and of later events
 packets_in-at : (moment : ℕ) (items : List Item) (later : List Event) → packets_in (at_moment moment items ++ later) ≡ items ++ packets_in later

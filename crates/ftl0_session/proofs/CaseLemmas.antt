@@ -1,14 +1,9 @@
 -- What holds of each row of uploading, of each row of downloading, and of error 1 holds of each row of the whole table.
 use Rattle.std.proofs.Common.{ℕ, List, Bool, Option, None, Some}
-use Rattle.std.specs.Prelude.{Ok, Err, IfSome}
-use Rattle.px_base.specs.CallSign.{CallSign}
-use Rattle.ftl0_packets.specs.Layout.{Item, PacketValue}
-use Rattle.file_store.specs.Store.{Store}
-use Rattle.ftl0_session.specs.Lists.Lists.{CallerList}
 use Rattle.ftl0_session.specs.Uploads.Session as upload
 use Rattle.ftl0_session.specs.Downloads.Table as download
-use Rattle.ftl0_session.specs.Downloads.Table.{DownloadRow, DownloadState, ready}
-use Rattle.ftl0_session.specs.Table.{Row, State, aborting, by_download, by_upload, command, download_row, downloading, error_row, listing, receiving, row_among, sending, session_row, state_by, upload_row, waiting}
+use Rattle.ftl0_session.specs.Table.{aborting, command, download_row, listing, receiving, sending, session_row, waiting}
+use Rattle.ftl0_session.proofs.Names.{Ok, Err, IfSome, CallSign, Item, PacketValue, Store, CallerList, DownloadRow, DownloadState, ready, Row, State, by_download, by_upload, downloading, error_row, row_among, state_by, upload_row}
 
 -- what holds of all values holds of the one that there is
 pub if-there : {X : Type 0} (o : Option X) (P : X → Type 0) → ((x : X) → P x) → IfSome o P

@@ -1,13 +1,6 @@
 -- The causes of code 3 in what is replied.
 use Rattle.std.proofs.Common.{◌≡◌, ℕ, ◌+◌, ◌*◌, List, [], ◌∷◌, Bool, true, false, true≢false, refl, sym, ap, ◌∙◌, arith, append-nil, eq-eqb, ◌==◌}
-use Rattle.std.specs.List.{AllByRecursion}
-use Rattle.disk_model.specs.declared.disk.Disk.{Ghosts}
-use Rattle.ftl0_packets.specs.Items.{texts}
-use Rattle.ftl0_packets.specs.Layout.{PacketValue, data_end, data_part, dl_error_resp, packet_text, ul_error_resp, ul_nak_resp}
-use Rattle.file_store.specs.Working.{one_if}
-use Rattle.ftl0_session.specs.Causes.{HasCause, Says}
-use Rattle.ftl0_session.specs.Table.{failed_reads_told, tells_failed_read}
-use Rattle.ftl0_session.specs.Uploads.Laws.{IsNoFault}
+use Rattle.ftl0_session.proofs.Names.{AllByRecursion, Ghosts, texts, PacketValue, data_end, data_part, dl_error_resp, packet_text, ul_error_resp, ul_nak_resp, one_if, HasCause, Says, failed_reads_told, tells_failed_read, IsNoFault}
 
 not-told : (b : Bool) (n : ℕ) → one_if b + n ≡ 0 → b ≡ false
 not-told true n none = absurd (omega (arith, none))

@@ -1,32 +1,16 @@
 -- Laws of downloads and directories over the whole table and over an event, by those of downloading.
 use Rattle.std.proofs.Common.{◌≡◌, ℕ, suc, ◌-◌, ◌==◌, ◌≤◌, List, [], ◌∷◌, ◌++◌, length, map, take, drop, Bool, true, false, not, Option, None, Some, refl, ap, sym, ◌∙◌, subst, arith, length-drop, append-nil}
-use Rattle.std.specs.Prelude.{Ok, if◌then◌else◌, is_some, nat_lt}
-use Rattle.std.specs.List.{flat_map, list_all}
-use Rattle.std.specs.Option.{option_map}
-use Rattle.std.proofs.lemmas.Bool.Decides.{nat_tests}
-use Rattle.std.proofs.lemmas.List.Elements.{All-weaker}
+use Rattle.std.specs.Prelude.{if◌then◌else◌}
 use Rattle.std.proofs.lemmas.List.Sums.{list_all-from_AllPass}
-use Rattle.std.proofs.lemmas.Option.{none-some}
-use Rattle.px_base.specs.CallSign.{CallSign}
-use Rattle.ftl0_packets.specs.Layout.{Item, PacketValue, data_end, data_part, dir_long_cmd, dir_short_cmd, download_cmd, kind_of, upload_cmd}
-use Rattle.ftl0_session.specs.Lists.Lists.{CallerList}
-use Rattle.file_store.specs.Headers.{header_octets}
-use Rattle.file_store.specs.Info.{IsCompleteIn}
-use Rattle.file_store.specs.Store.{Store}
-use Rattle.ftl0_session.specs.Uploads.Failures.{Failure, NoReadFails, read_fails}
-use Rattle.ftl0_session.specs.Uploads.Session.{is_upload_kind}
-use Rattle.ftl0_session.specs.Downloads.Laws.{Sends as DownloadSends, SendsAll as DownloadSendsAll}
-use Rattle.ftl0_session.specs.Downloads.Needs.{AreFiles, LiesIn}
 use Rattle.ftl0_session.specs.Downloads.Sending as due
-use Rattle.ftl0_session.specs.Downloads.Sending.{due_octets, octets_due, state_at_end}
 use Rattle.ftl0_session.specs.Downloads.Table as download
-use Rattle.ftl0_session.specs.Downloads.Table.{DownloadRow, DownloadState, Due, asked_file, asked_row, directory_row, file_of, file_row, files_row, has_file, listed_files, lists_after, long_due, octets_in, refused_row, short_due, short_octets, stored}
+use Rattle.ftl0_session.proofs.Names.{Ok, is_some, nat_lt, flat_map, list_all, option_map, nat_tests, All-weaker, none-some, CallSign, Item, PacketValue, data_end, data_part, dir_long_cmd, dir_short_cmd, download_cmd, kind_of, upload_cmd, CallerList, header_octets, IsCompleteIn, Store, Failure, NoReadFails, read_fails, is_upload_kind, Sends as DownloadSends, SendsAll as DownloadSendsAll, AreFiles, LiesIn, due_octets, octets_due, state_at_end, DownloadRow, DownloadState, Due, asked_file, asked_row, directory_row, file_of, file_row, files_row, has_file, listed_files, lists_after, long_due, octets_in, refused_row, short_due, short_octets, stored, event_row, by_download, downloading, due_at, in_session, next_due}
 use Rattle.ftl0_session.proofs.downloads.DueLemmas.{take-all}
 use Rattle.ftl0_session.proofs.downloads.FileLemmas.{complete-file, file-complete}
 use Rattle.ftl0_session.proofs.downloads.SentLemmas.{long-listed, sent-all, short-listed}
 use Rattle.ftl0_session.specs.DownloadLaws.{DownloadedLaw, DownloadsLaw, LongListedLaw, SaysAll, SentLaw, ShortListedLaw}
-use Rattle.ftl0_session.specs.Run.{Event, Sends, event_row}
-use Rattle.ftl0_session.specs.Table.{by_download, command, downloading, due_at, in_session, next_due, session_row}
+use Rattle.ftl0_session.specs.Run.{Event, Sends}
+use Rattle.ftl0_session.specs.Table.{command, session_row}
 use Rattle.ftl0_session.proofs.RowLemmas.{download-free, download_part-is, none-in, row-download}
 
 -- ---- rows

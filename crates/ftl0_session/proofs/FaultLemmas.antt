@@ -1,25 +1,14 @@
 -- Which code 3 a row of the whole table has, and what is sent next.
 use Rattle.std.proofs.Common.{◌≡◌, ◌≢◌, ℕ, List, [], ◌∷◌, length, refl, ap, sym, ◌∙◌, subst, take, eq-eqb, true≢false, Bool, true, false, ◌&&◌, Option, None, Some}
-use Rattle.std.specs.Prelude.{IfSome, if◌then◌else◌, ◌==◌}
-use Rattle.std.specs.List.{AllByRecursion}
-use Rattle.std.specs.Option.{option_map}
-use Rattle.std.proofs.lemmas.Option.{IfSome_then, none-some}
-use Rattle.px_base.specs.CallSign.{CallSign}
-use Rattle.ftl0_packets.specs.Items.{kind_of_item}
-use Rattle.ftl0_packets.specs.Layout.{Item, PacketValue, data_end, data_part, dl_aborted_resp, dl_completed_resp, dl_error_resp, select_resp, ul_ack_resp, ul_error_resp, ul_go_resp, ul_nak_resp}
-use Rattle.ftl0_session.specs.Lists.Lists.{CallerList}
-use Rattle.file_store.specs.Store.{Store}
-use Rattle.file_store.proofs.Offered.{told_weaker}
-use Rattle.ftl0_session.specs.Uploads.Laws.{FaultCodeLaw as UploadCodeLaw, IsNoFault}
+use Rattle.std.specs.Prelude.{if◌then◌else◌, ◌==◌}
+use Rattle.ftl0_session.specs.Uploads.Laws.{FaultCodeLaw as UploadCodeLaw}
 use Rattle.ftl0_session.specs.Uploads.Session as upload
-use Rattle.ftl0_session.specs.Uploads.Session.{is_upload_kind}
+use Rattle.ftl0_session.proofs.Names.{IfSome, AllByRecursion, option_map, IfSome_then, none-some, CallSign, kind_of_item, Item, PacketValue, data_end, data_part, dl_aborted_resp, dl_completed_resp, dl_error_resp, select_resp, ul_ack_resp, ul_error_resp, ul_go_resp, ul_nak_resp, CallerList, Store, told_weaker, IsNoFault, is_upload_kind, DownloadState, DueFaultLaw, FaultCodeLaw, State, download_part, error_by, in_session, next_due, failed_reads_told, tells_failed_read, upload_part}
 use Rattle.ftl0_session.proofs.uploads.CaseLemmas.{upload-case}
 use Rattle.ftl0_session.specs.Downloads.Sending as due
 use Rattle.ftl0_session.specs.Downloads.Table as download
-use Rattle.ftl0_session.specs.Downloads.Table.{DownloadState}
 use Rattle.ftl0_session.proofs.downloads.ReplyLemmas.{row_replies}
-use Rattle.ftl0_session.specs.Laws.{DueFaultLaw, FaultCodeLaw}
-use Rattle.ftl0_session.specs.Table.{State, download_part, error_by, in_session, next_due, session_row, failed_reads_told, tells_failed_read, upload_part}
+use Rattle.ftl0_session.specs.Table.{session_row}
 use Rattle.ftl0_session.proofs.CaseLemmas.{session-case}
 use Rattle.ftl0_session.proofs.RowLemmas.{upload_part-free}
 

@@ -1,20 +1,9 @@
 -- What is due of a session is what is due of its downloading.
 use Rattle.std.proofs.Common.{◌≡◌, ℕ, List, refl, ap, sym, subst, Bool, Option, None, Some}
-use Rattle.std.specs.Option.{option_map}
-use Rattle.std.specs.Prelude.{IfSome}
-use Rattle.disk_model.specs.declared.disk.Disk.{Ghosts}
-use Rattle.ftl0_packets.specs.Layout.{dl_error_resp}
-use Rattle.file_store.specs.Store.{Store}
-use Rattle.file_store.specs.State.{StoreState}
-use Rattle.ftl0_session.specs.declared.uploads.phase.Phase.{Phase}
 use Rattle.ftl0_session.specs.declared.uploads.phase.Phase.TheVariants as phase
-use Rattle.ftl0_session.specs.Uploads.SessionState.{state_of}
-use Rattle.ftl0_session.specs.Downloads.Filling.{IsDue as IsDownloadDue, PutsDue as PutsDownload, filled}
+use Rattle.ftl0_session.specs.Downloads.Filling.{IsDue as IsDownloadDue, PutsDue as PutsDownload}
 use Rattle.ftl0_session.specs.Downloads.Sending.{DuePacket as DownloadDue, next_due as next_download}
-use Rattle.ftl0_session.specs.Downloads.Table.{DownloadState, ready}
-use Rattle.ftl0_session.specs.Filling.{IsDue, PutsDue}
-use Rattle.ftl0_session.specs.SessionState.{DoesOne}
-use Rattle.ftl0_session.specs.Table.{downloading, in_session, next_due, state_by}
+use Rattle.ftl0_session.proofs.Names.{option_map, IfSome, Ghosts, dl_error_resp, Store, StoreState, Phase, state_of, filled, DownloadState, ready, IsDue, PutsDue, DoesOne, downloading, in_session, next_due, state_by}
 use Rattle.ftl0_session.proofs.RowLemmas.{download_part-is}
 
 module _ {D : Type 0} (store : Store) (fails put : Bool) (disk disk_now : D) (part part_now : DownloadState) (out out_now : List ℕ) where

@@ -1,16 +1,12 @@
 -- Laws of the whole table, by those of uploading.
 use Rattle.std.proofs.Common.{◌++◌, refl, ap, ◌∙◌, sym, subst}
-use Rattle.std.specs.Prelude.{Ok, true, false}
-use Rattle.ftl0_packets.specs.Layout.{data_end}
 use Rattle.ftl0_session.specs.Uploads.Laws.{kept}
 use Rattle.ftl0_session.specs.Uploads.Session as upload
+use Rattle.ftl0_session.proofs.Names.{Ok, true, false, data_end, ready, Acknowledges, AcknowledgedLaw, AcknowledgedStandsLaw, GrantedLaw, HoldsAll, ResumedLaw, StandsAcknowledged, UnreadLaw, UploadsLaw, Row, state_by}
 use Rattle.ftl0_session.proofs.uploads.AckLemmas.{acknowledged_stands as upload_stands}
 use Rattle.ftl0_session.proofs.uploads.UploadRows.{row-granted as upload_granted}
 use Rattle.ftl0_session.proofs.uploads.Rows.{by_read-unread}
 use Rattle.ftl0_session.proofs.uploads.Uploads.{acknowledged as upload_acknowledged, resumed as upload_resumed, unread as upload_unread}
-use Rattle.ftl0_session.specs.Downloads.Table.{ready}
-use Rattle.ftl0_session.specs.Laws.{Acknowledges, AcknowledgedLaw, AcknowledgedStandsLaw, GrantedLaw, HoldsAll, ResumedLaw, StandsAcknowledged, UnreadLaw, UploadsLaw}
-use Rattle.ftl0_session.specs.Table.{Row, state_by}
 use Rattle.ftl0_session.proofs.RowLemmas.{row-upload, upload-free}
 
 pub uploads : UploadsLaw

@@ -13,3 +13,4 @@ mod RunLemmas
 mod TakenLemmas
 mod UploadLemmas
 pub mod WorkingLemmas
+mod Names

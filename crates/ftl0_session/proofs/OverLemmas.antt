@@ -1,13 +1,8 @@
 -- A session over events, and others behind them.
 use Rattle.std.proofs.Common.{List, [], ◌∷◌, ◌++◌, refl, ap, sym, ◌∙◌, append_assoc}
-use Rattle.px_base.specs.CallSign.{CallSign}
-use Rattle.ftl0_packets.specs.Layout.{PacketValue}
-use Rattle.ftl0_session.specs.Lists.Lists.{CallerList}
-use Rattle.file_store.specs.Command.{Command, after_all}
-use Rattle.file_store.specs.Store.{Store}
-use Rattle.ftl0_session.specs.Run.{Event as MetEvent, RunsOver, event_row, session_over}
+use Rattle.ftl0_session.specs.Run.{Event as MetEvent}
 use Rattle.ftl0_session.specs.RunLaws.{ComesTo, RunsLaw}
-use Rattle.ftl0_session.specs.Table.{Row, State}
+use Rattle.ftl0_session.proofs.Names.{CallSign, PacketValue, CallerList, Command, after_all, Store, RunsOver, event_row, session_over, Row, State}
 use Rattle.ftl0_session.proofs.RunLemmas.{commands}
 
 -- each event was come to, behind the earlier ones

@@ -1,22 +1,11 @@
 -- Which row a packet has, by what the session does of uploading and of downloading.
 use Rattle.std.proofs.Common.{◌≡◌, ℕ, List, refl, ap, ◌∙◌, sym, Bool, true, false, Option, None, Some}
-use Rattle.std.specs.Prelude.{Ok, Err}
-use Rattle.px_base.specs.CallSign.{CallSign}
-use Rattle.ftl0_packets.specs.Items.{kind_of_item}
-use Rattle.ftl0_packets.specs.Layout.{Item, PacketValue}
-use Rattle.ftl0_session.specs.Lists.Lists.{CallerList}
-use Rattle.file_store.specs.Store.{Store}
-use Rattle.file_store.specs.State.{StoreState}
-use Rattle.ftl0_session.specs.declared.uploads.phase.Phase.{Phase}
 use Rattle.ftl0_session.specs.declared.uploads.phase.Phase.TheVariants as phase
 use Rattle.ftl0_session.specs.Uploads.Session as upload
-use Rattle.ftl0_session.specs.Uploads.Session.{is_upload_kind}
-use Rattle.ftl0_session.specs.Uploads.SessionState.{state_of}
+use Rattle.ftl0_session.proofs.Names.{Ok, Err, CallSign, kind_of_item, Item, PacketValue, CallerList, Store, StoreState, Phase, is_upload_kind, state_of, DownloadRow, DownloadState, ready, DoesOne, State, by_download, by_upload, download_part, downloading, error_row, row_among, state_by, upload_part, upload_row}
 use Rattle.ftl0_session.proofs.uploads.Rows.{by_read-none as upload_none}
 use Rattle.ftl0_session.specs.Downloads.Table as download
-use Rattle.ftl0_session.specs.Downloads.Table.{DownloadRow, DownloadState, ready}
-use Rattle.ftl0_session.specs.SessionState.{DoesOne}
-use Rattle.ftl0_session.specs.Table.{State, aborting, by_download, by_upload, command, download_part, download_row, downloading, error_row, receiving, row_among, session_row, state_by, upload_part, upload_row}
+use Rattle.ftl0_session.specs.Table.{aborting, command, download_row, receiving, session_row}
 
 -- ---- the parts of a state
 

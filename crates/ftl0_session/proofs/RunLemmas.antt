@@ -1,14 +1,9 @@
 -- A session over events.
 use Rattle.std.proofs.Common.{◌≡◌, ℕ, List, [], ◌∷◌, ◌++◌, map, refl, ap, sym, ◌∙◌, subst, Option, None}
-use Rattle.file_store.specs.Command.{Command, after, after_all}
-use Rattle.file_store.specs.Store.{Store}
-use Rattle.ftl0_session.specs.Uploads.Failures.{Failure, read_fails}
-use Rattle.ftl0_session.specs.Uploads.Run.{commands_of, on_row, replies_to, state_after, store_after}
+use Rattle.ftl0_session.specs.Uploads.Run.{state_after}
 use Rattle.ftl0_session.specs.Uploads.Session as upload
+use Rattle.ftl0_session.proofs.Names.{Command, after, after_all, Store, Failure, read_fails, commands_of, on_row, replies_to, store_after, ready, CommandsLaw, RunsOver, UploadRunLaw, as_event, event_row, session_over, by_upload, due_at, state_by}
 use Rattle.ftl0_session.proofs.uploads.Rows.{row-some}
-use Rattle.ftl0_session.specs.Downloads.Table.{ready}
-use Rattle.ftl0_session.specs.Run.{CommandsLaw, RunsOver, UploadRunLaw, as_event, event_row, session_over}
-use Rattle.ftl0_session.specs.Table.{by_upload, due_at, state_by}
 use Rattle.ftl0_session.proofs.RowLemmas.{row-upload, upload-free}
 
 -- commands one after another

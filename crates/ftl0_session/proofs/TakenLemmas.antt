@@ -1,31 +1,11 @@
 -- What a packet does whose row has no command of the store: one of downloading, or error 1.
 use Rattle.std.proofs.Common.{◌≡◌, ℕ, List, [], ◌∷◌, refl, ap, sym, ◌∙◌, subst, append-nil, arith, true≢false, Bool, true, false, Option, None, Some}
-use Rattle.std.specs.Prelude.{⊤, Result, Ok, IsErr, IsSomeAnd, IsTrue, is_some}
-use Rattle.disk_model.specs.declared.disk.Disk.{Ghosts}
-use Rattle.disk_model.specs.declared.disk.DiskFault.{DiskFault}
-use Rattle.ftl0_packets.specs.Items.{kind_of_item, texts}
-use Rattle.ftl0_packets.specs.Layout.{Item, PacketValue, dl_error_resp, packet_text}
-use Rattle.ftl0_session.specs.Lists.Lists.{CallerList}
-use Rattle.file_store.specs.Calls.{Reads}
-use Rattle.file_store.proofs.Offered.{among-at, on_same, puts-among-same, reads-only}
-use Rattle.file_store.specs.Command.{Command, DoesAll, after_all}
-use Rattle.file_store.specs.OnDisk.{outlined_all}
-use Rattle.file_store.specs.State.{IsKnown, IsReady, StoreState, store_in, store_on}
-use Rattle.file_store.specs.Store.{Store}
-use Rattle.file_store.specs.Working.{DoesAmongReads, one_if}
-use Rattle.ftl0_session.specs.declared.uploads.phase.Phase.{Phase}
 use Rattle.ftl0_session.specs.declared.uploads.phase.Phase.TheVariants as phase
-use Rattle.ftl0_session.specs.Uploads.Events.{packet_of}
-use Rattle.ftl0_session.specs.Uploads.Session.{is_upload_kind}
-use Rattle.ftl0_session.specs.Uploads.SessionState.{SessionState as Uploading, state_of}
+use Rattle.ftl0_session.proofs.Names.{⊤, Result, Ok, IsErr, IsSomeAnd, IsTrue, is_some, Ghosts, DiskFault, kind_of_item, texts, Item, PacketValue, dl_error_resp, packet_text, CallerList, Reads, among-at, on_same, puts-among-same, reads-only, Command, DoesAll, after_all, outlined_all, IsKnown, IsReady, StoreState, store_in, store_on, Store, DoesAmongReads, one_if, Phase, packet_of, is_upload_kind, SessionState as Uploading, state_of, AreComplete, IsDueIn, KeepsFiles, DownloadRow, DownloadState, IsRow, Made, TakesByRow, made, made_by, MayTake, caller_of, session_of, state_in, working_on, HasCause, Says, Row, State, by_download, download_part, downloading, error_by, error_row, state_by, upload_row, Taken, at_work, download_row_of, packet_row, working}
 use Rattle.ftl0_session.proofs.uploads.Rows.{others-same}
-use Rattle.ftl0_session.specs.Downloads.Needs.{AreComplete, IsDueIn, KeepsFiles}
-use Rattle.ftl0_session.specs.Downloads.Table.{DownloadRow, DownloadState}
-use Rattle.ftl0_session.specs.Downloads.Taking.{IsRow, Made, TakesByRow, made, made_by}
-use Rattle.ftl0_session.specs.SessionState.{MayTake, SessionState, caller_of, session_of, state_in, working_on}
-use Rattle.ftl0_session.specs.Causes.{HasCause, Says}
-use Rattle.ftl0_session.specs.Table.{Row, State, by_download, download_part, download_row, downloading, error_by, error_row, state_by, upload_row}
-use Rattle.ftl0_session.specs.Taking.{LooksAtNone, Taken, at_work, download_row_of, packet_row, working}
+use Rattle.ftl0_session.specs.SessionState.{SessionState}
+use Rattle.ftl0_session.specs.Table.{download_row}
+use Rattle.ftl0_session.specs.Taking.{LooksAtNone}
 use Rattle.ftl0_session.proofs.CauseLemmas.{says-one}
 use Rattle.ftl0_session.proofs.RowLemmas.{download-command, download_part-is, row-download, row-error}
 

@@ -1,31 +1,9 @@
 -- What a packet of uploading does, while the session does nothing of downloading.
 use Rattle.std.proofs.Common.{◌≡◌, ℕ, List, [], ◌∷◌, refl, ap, sym, ◌∙◌, subst, Bool, true, false, Some}
-use Rattle.std.specs.Prelude.{⊤, Result, Ok, Err, IsErr}
-use Rattle.disk_model.specs.AtDisk.{AtDisk, at}
-use Rattle.disk_model.specs.declared.disk.Disk.{Ghosts}
-use Rattle.disk_model.specs.declared.disk.DiskFault.{DiskFault}
-use Rattle.ftl0_packets.specs.Items.{kind_of_item, texts}
-use Rattle.ftl0_packets.specs.Layout.{Item, PacketValue, ul_nak_resp}
-use Rattle.ftl0_session.specs.Lists.Lists.{CallerList}
-use Rattle.file_store.specs.Calls.{ChangesReads}
-use Rattle.file_store.proofs.Offered.{among-at}
-use Rattle.file_store.specs.Command.{Command, DoesAll, after_all}
-use Rattle.file_store.specs.OnDisk.{outlined_all}
-use Rattle.file_store.specs.EntriesKept.{KeepsComplete}
-use Rattle.file_store.specs.State.{IsKnown, StandsOn, StoreState, store_in, store_on}
-use Rattle.file_store.specs.Store.{Store}
-use Rattle.file_store.specs.Working.{one_if}
-use Rattle.ftl0_session.specs.Uploads.Events.{CallerPacket, packet_of}
-use Rattle.ftl0_session.specs.Uploads.Others.{KeepsOtherCallers}
 use Rattle.ftl0_session.specs.Uploads.Session as upload
-use Rattle.ftl0_session.specs.Uploads.Session.{is_upload_kind}
-use Rattle.ftl0_session.specs.Uploads.SessionState.{IsHeld, IsOnlyOut, SessionState as Uploading, state_of}
-use Rattle.ftl0_session.specs.Uploads.Taking.{IsStopped as IsUploadStopped, LooksAtNone as LooksAtNoneIn, MakesAnyway as MakesUploadAnyway, MakesRow, TakesPacket as TakesUpload, Working as UploadWorking, row_of, working_at}
-use Rattle.ftl0_session.specs.Downloads.Needs.{AreComplete}
-use Rattle.ftl0_session.specs.Downloads.Table.{ready}
-use Rattle.ftl0_session.specs.SessionState.{session_of, working_on}
-use Rattle.ftl0_session.specs.Table.{Row, by_upload, state_by, upload_part}
-use Rattle.ftl0_session.specs.Taking.{Answers, IsStopped, LooksAtNone, MakesAnyway, PutsRow, Taken, TakesPacket, TellsRead, Working, packet_row, row_over}
+use Rattle.ftl0_session.specs.Uploads.Taking.{IsStopped as IsUploadStopped, MakesRow, Working as UploadWorking}
+use Rattle.ftl0_session.specs.Taking.{LooksAtNone, MakesAnyway, TakesPacket}
+use Rattle.ftl0_session.proofs.Names.{⊤, Result, Ok, Err, IsErr, AtDisk, at, Ghosts, DiskFault, kind_of_item, texts, Item, PacketValue, ul_nak_resp, CallerList, ChangesReads, among-at, Command, DoesAll, after_all, outlined_all, KeepsComplete, IsKnown, StandsOn, StoreState, store_in, store_on, Store, one_if, CallerPacket, packet_of, KeepsOtherCallers, is_upload_kind, IsHeld, IsOnlyOut, SessionState as Uploading, state_of, LooksAtNone as LooksAtNoneIn, MakesAnyway as MakesUploadAnyway, TakesPacket as TakesUpload, row_of, working_at, AreComplete, ready, session_of, working_on, Row, by_upload, state_by, upload_part, Answers, IsStopped, PutsRow, Taken, TellsRead, Working, packet_row, row_over}
 use Rattle.ftl0_session.proofs.uploads.Rows.{by_read-some}
 use Rattle.ftl0_session.proofs.RowLemmas.{row-upload, upload-free, upload_part-free}
 

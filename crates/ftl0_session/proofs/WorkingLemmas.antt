@@ -1,27 +1,11 @@
 -- What a packet that is taken, or one that is sent, does to the disk, with the reads that were made for it.
 use Rattle.std.proofs.Common.{◌≡◌, ℕ, ◌+◌, List, [], ◌∷◌, ◌++◌, ◌==◌, refl, ap, ap₂, sym, ◌∙◌, Bool, true, false, ◌&&◌, ◌||◌, Option, None, Some, IfSome}
-use Rattle.std.specs.Prelude.{⊤, Result, Ok, Err, if◌then◌else◌}
-use Rattle.std.specs.List.{list_any}
-use Rattle.std.specs.Option.{option_map}
+use Rattle.std.specs.Prelude.{if◌then◌else◌}
 use Rattle.std.proofs.Math.Bool.{and-false, and-true, or-false}
 use Rattle.std.proofs.Math.Nat.{add_assoc, zero-add}
-use Rattle.std.proofs.lemmas.List.Folds.{list_any-append}
-use Rattle.px_base.specs.CallSign.{CallSign}
-use Rattle.disk_model.specs.declared.disk.Disk.{Ghosts}
-use Rattle.ftl0_packets.specs.Layout.{Item, PacketValue, dl_error_resp, packet_text}
-use Rattle.file_store.proofs.Offered.{among-same, at_told, Does-none, does-among, reads-only}
-use Rattle.file_store.specs.Store.{Store}
-use Rattle.file_store.specs.State.{IsKnown, IsReady, StoreState, store_on}
-use Rattle.file_store.specs.Working.{CutsOffAmongReads, DoesAmongReads, one_if}
-use Rattle.ftl0_session.specs.Uploads.Failures.{Failure, failed_reads, failed_write, is_read_fault, is_write_fault, read_fails, write_fails}
 use Rattle.ftl0_session.specs.Downloads.Sending as due
-use Rattle.disk_model.specs.declared.disk.DiskFault.{DiskFault}
-use Rattle.ftl0_session.specs.Filling.{IsDue, PutsDue}
-use Rattle.ftl0_session.specs.Table.{DuePacket, Row, State, download_part, in_session, next_due, row_at, failed_reads_told, tells_failed_read}
-use Rattle.ftl0_session.specs.Taking.{TakesPacket, TellsRead, Working, row_over}
-use Rattle.ftl0_session.specs.Downloads.Filling.{filled}
-use Rattle.ftl0_session.specs.Uploads.Events.{packet_of}
-use Rattle.disk_model.specs.AtDisk.{at}
+use Rattle.ftl0_session.specs.Taking.{TakesPacket}
+use Rattle.ftl0_session.proofs.Names.{⊤, Result, Ok, Err, list_any, option_map, list_any-append, CallSign, Ghosts, Item, PacketValue, dl_error_resp, packet_text, among-same, at_told, Does-none, does-among, reads-only, Store, IsKnown, IsReady, StoreState, store_on, CutsOffAmongReads, DoesAmongReads, one_if, Failure, failed_reads, failed_write, is_read_fault, is_write_fault, read_fails, write_fails, DiskFault, IsDue, PutsDue, DuePacket, Row, State, download_part, in_session, next_due, row_at, failed_reads_told, tells_failed_read, TellsRead, Working, row_over, filled, packet_of, at}
 use Rattle.ftl0_session.proofs.FaultLemmas.{due_codes, fault_codes}
 
 -- ---- a read that failed is told, and no other

@@ -1,10 +1,7 @@
 -- The body of a file that keeps all rules.
 use Rattle.std.proofs.Common.{◌+◌, ap, drop, length, sym, ◌∙◌}
 use Rattle.std.proofs.Math.Seq.{drop-append_seam}
-use Rattle.std.proofs.lemmas.List.{length-append}
-use Rattle.pfh_items.specs.Layout.{header_text}
-use Rattle.pfh_items.proofs.Offered.{one_header}
-use Rattle.header_tool.specs.Laws.{IsBodyBehind, IsBodyOfMade, IsOneBody}
+use Rattle.header_tool.proofs.Names.{length-append, header_text, one_header, IsBodyBehind, IsBodyOfMade, IsOneBody}
 
 pub body_behind : IsBodyBehind
 body_behind items body file is = (

@@ -3,10 +3,7 @@ use Rattle.std.proofs.Common.{◌≡◌, ℕ, List, Option, Some, None, option_m
 use Rattle.px_base.specs.Octets.{IsOctets}
 use Rattle.pfh_items.specs.declared.fault.FileFault.{FileFault}
 use Rattle.pfh_items.specs.Faults.{IsFound, code_of, fault_code, file_parts, first_fault}
-use Rattle.pfh_items.specs.Layout.{ItemValue, HeaderValue, FileText}
-use Rattle.pfh_items.proofs.Offered.{file_parts-text, FileText-file_parts, first_fault-from, first_fault-none}
-use Rattle.header_tool.specs.Laws.{ChecksFault, ShowsFault, ShowsItems}
-use Rattle.header_tool.specs.Lines.{items_in, last_line, shown_text}
+use Rattle.header_tool.proofs.Names.{ItemValue, HeaderValue, FileText, file_parts-text, FileText-file_parts, first_fault-from, first_fault-none, ChecksFault, ShowsFault, ShowsItems, items_in, last_line, shown_text}
 
 -- the first fault of a file is the one that is computed
 first_fault-is : (file : List ℕ) (fault : Option FileFault) → IsOctets file → IsFound file fault → first_fault file ≡ fault

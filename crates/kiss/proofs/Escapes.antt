@@ -1,13 +1,7 @@
 -- Escapes are read back, and nothing else is read.
 use Rattle.std.proofs.Common.{◌≡◌, ◌≢◌, ◌<◌, ◌+◌, ℕ, List, [], ◌∷◌, ◌++◌, Option, Some, None, length, refl, sym, ap, ◌∙◌, ⊎_elim, arith, append-nil, append_assoc, length-append, get_or, drop, All}
-use Rattle.std.specs.Option.{option_map}
-use Rattle.std.proofs.lemmas.Bool.{cases_eq, eq-eqb, ne_eqb, lt-ltb}
 use Rattle.std.proofs.lemmas.List.Concat.{flat_map-append}
-use Rattle.std.proofs.lemmas.List.{drop-drop}
-use Rattle.std.proofs.lemmas.List.Elements.{All-tail}
-use Rattle.kiss.specs.declared.whole.Part.TheVariants.{Dropped}
-use Rattle.kiss.specs.KissText.{fend, fesc, tfend, tfesc, escape_octet, escape, with_front, unescape, part_of, most_octets, HasNoFend}
-use Rattle.kiss.specs.ReaderMemory.{IsPlain}
+use Rattle.kiss.proofs.Names.{option_map, cases_eq, eq-eqb, ne_eqb, lt-ltb, drop-drop, All-tail, Dropped, fend, fesc, tfend, tfesc, escape_octet, escape, with_front, unescape, part_of, most_octets, HasNoFend, IsPlain}
 
 -- what is no FESC stands for itself
 unescape-plain : (x : ℕ) (rest : List ℕ) → x ≢ fesc → unescape (x ∷ rest) ≡ option_map (λ octets. x ∷ octets) (unescape rest)

@@ -1,11 +1,7 @@
 -- The octets of the frames in octets are octets.
 use Rattle.std.proofs.Common.{ℕ, ◌<◌, Bool, true, false, List, [], ◌∷◌, map, drop, arith}
 use Rattle.std.specs.Prelude.{◌==◌, nat_lt, Option, None, Some, ⊤, if◌then◌else◌}
-use Rattle.std.specs.List.{AllByRecursion, filter, onto_first, slice_split}
-use Rattle.std.proofs.lemmas.List.Elements.{All-from_recursion, recursion_from_All}
-use Rattle.kiss.specs.declared.whole.Part.TheVariants.{Frame, Dropped, Passed}
-use Rattle.kiss.specs.KissText.{but_last, data_on_port_0, fend, fesc, has_octets, is_fend, kiss_parts, most_octets, part_of, part_of_text, pieces, tfend, tfesc, unescape, with_front}
-use Rattle.kiss.specs.Laws.{HasOctets, FramesHaveOctets}
+use Rattle.kiss.proofs.Names.{AllByRecursion, filter, onto_first, slice_split, All-from_recursion, recursion_from_All, Frame, Dropped, Passed, but_last, data_on_port_0, fend, fesc, has_octets, is_fend, kiss_parts, most_octets, part_of, part_of_text, pieces, tfend, tfesc, unescape, with_front, HasOctets, FramesHaveOctets}
 
 -- the fact by recursion on the list
 abbrev AreOctets : List ℕ → Type 0

@@ -1,11 +1,6 @@
 -- The laws of KISS text.
 use Rattle.std.proofs.Common.{◌≡◌, ◌≤◌, ◌≢◌, ℕ, List, [], ◌∷◌, ◌++◌, Bool, true, false, cond, Option, None, Some, length, map, refl, sym, ap, ◌∙◌, append_assoc, append-nil, ⊎_elim}
-use Rattle.std.specs.List.{flat_map, filter_map, cons_option, list_any, AllByRecursion}
-use Rattle.std.proofs.lemmas.Bool.{le-ltb, cases_eq, cases_Bool, ne_eqb, or_parts}
-use Rattle.kiss.specs.declared.whole.Part.{Part}
-use Rattle.kiss.specs.declared.whole.Part.TheVariants.{Frame}
-use Rattle.kiss.specs.KissText.{fend, is_fend, data_on_port_0, most_octets, escape, unescape, part_of, frame_of, kiss_text, kiss_parts, kiss_frames, from_last_fend, HasNoFend}
-use Rattle.kiss.specs.Laws.{ReadsBack, AllReadBack, AllFramesReadBack, EscapesOneWay, PartsGoOn, FramesGoOn}
+use Rattle.kiss.proofs.Names.{flat_map, filter_map, cons_option, list_any, AllByRecursion, le-ltb, cases_eq, cases_Bool, ne_eqb, or_parts, Part, Frame, fend, is_fend, data_on_port_0, most_octets, escape, unescape, part_of, frame_of, kiss_text, kiss_parts, kiss_frames, from_last_fend, HasNoFend, ReadsBack, AllReadBack, AllFramesReadBack, EscapesOneWay, PartsGoOn, FramesGoOn}
 use Rattle.kiss.proofs.Splitting.{kiss_parts-before, kiss_parts-first, no_part, no_part_after}
 use Rattle.kiss.proofs.Escapes.{HasNoFend-append, unescape-whole, unescape_some}
 use Rattle.kiss.proofs.Steps.{within-end, fend_again, ended}

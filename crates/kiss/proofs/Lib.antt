@@ -3,3 +3,4 @@ mod Escapes
 mod Steps
 mod LawProofs
 mod FrameOctets
+mod Names

@@ -1,10 +1,7 @@
 -- What the parts of a list of octets are after a FEND.
 use Rattle.std.proofs.Common.{◌≡◌, ◌≢◌, ℕ, List, [], ◌∷◌, ◌++◌, map, refl, sym, ap, ◌∙◌, ⊎_elim, append-nil}
-use Rattle.std.specs.List.{slice_split, onto_first, filter}
-use Rattle.std.proofs.lemmas.Bool.{cases_Bool, ne_eqb}
 use Rattle.std.proofs.lemmas.List.Splits.{slice_split-cons_no, slice_split-cons_yes}
-use Rattle.kiss.specs.declared.whole.Part.{Part}
-use Rattle.kiss.specs.KissText.{fend, is_fend, part_of, unescape, but_last, has_octets, kiss_parts, HasNoFend}
+use Rattle.kiss.proofs.Names.{slice_split, onto_first, filter, cases_Bool, ne_eqb, Part, fend, is_fend, part_of, unescape, but_last, has_octets, kiss_parts, HasNoFend}
 
 -- the parts of pieces, of which the last isn't ended
 abbrev pub parts_of_split : List (List ℕ) → List Part

@@ -1,16 +1,10 @@
 -- What one more octet makes of the parts.
 use Rattle.std.proofs.Common.{append-nil, ◌≡◌, ◌≢◌, ◌<◌, ℕ, List, [], ◌∷◌, ◌++◌, Option, Some, None, length, map, refl, sym, ap, ◌∙◌, append_assoc, length-append, arith}
-use Rattle.std.specs.Option.{option_to_list}
-use Rattle.std.specs.List.{filter_map}
 use Rattle.kiss.specs.declared.reader.KissFed.{KissFed}
 use Rattle.kiss.specs.declared.reader.KissFed.TheVariants as fed
-use Rattle.kiss.specs.declared.whole.Part.{Part}
-use Rattle.kiss.specs.declared.whole.Part.TheVariants.{Frame, Dropped}
-use Rattle.kiss.specs.KissText.{fend, fesc, tfend, tfesc, most_octets, escape_octet, escape, unescape, part_of, frame_of, kiss_parts, kiss_frames, HasNoFend}
-use Rattle.kiss.specs.declared.reader.State.{State}
 use Rattle.kiss.specs.declared.reader.State.TheVariants as state
 use Rattle.kiss.specs.Hearing.{Hearing, parts_ended, frames_ended}
-use Rattle.kiss.specs.ReaderMemory.{heard_in, hearing, parts_of_text, IsStep}
+use Rattle.kiss.proofs.Names.{option_to_list, filter_map, Part, Frame, Dropped, fend, fesc, tfend, tfesc, most_octets, escape_octet, escape, unescape, part_of, frame_of, kiss_parts, kiss_frames, HasNoFend, State, heard_in, hearing, parts_of_text, IsStep}
 use Rattle.kiss.proofs.Splitting.{split_form, one_piece, kiss_parts-fend, after_fend-piece, after_fend-swap}
 use Rattle.kiss.proofs.Escapes.{escape-form, escape-no_fend, escape-push, escape-push_itself, unescape-whole, ill-dropped, open-dropped, long-dropped, HasNoFend-append}
 

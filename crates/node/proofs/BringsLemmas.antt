@@ -1,18 +1,8 @@
 -- What is handed over brings events.
 use Rattle.std.proofs.Common.{◌≡◌, ℕ, List, [], ◌∷◌, ◌++◌, length, take, suc, ◌≤◌, Bool, true, false, Option, None, Some, IfSome, refl, sym, ap, ◌∙◌, subst, inl, inr, append_assoc, append-nil, arith}
-use Rattle.std.proofs.lemmas.List.{map-append}
-use Rattle.std.specs.Prelude.{IsSome, IsTrue, option_to_list, ◌==◌, if◌then◌else◌}
-use Rattle.px_base.specs.CallSign.{CallSign}
-use Rattle.px_base.specs.Polling.{octets_of_turn}
-use Rattle.px_base.specs.declared.air.Turn.{Turn}
+use Rattle.std.specs.Prelude.{◌==◌, if◌then◌else◌}
 use Rattle.px_base.specs.declared.air.Turn.TheVariants as turn
-use Rattle.kiss.specs.KissText.{kiss_frames}
-use Rattle.ax25_frames.specs.FrameText.{FrameValue}
-use Rattle.node.specs.Events.{Finishes, FramesFor, NodeEvent, NodeEvents, TurnsBring, heard_at, hears, tick_of, ticks}
-use Rattle.node.specs.Inputs.{Input, inputs_of, inputs_since, octet, octets_at, octets_in, tick, turn_inputs, turn_tick}
-use Rattle.node.specs.OnAir.{Brings}
-use Rattle.node.specs.Reading.{Finds, HasHeard, HearsOctet}
-use Rattle.node.specs.Station.{StationValue}
+use Rattle.node.proofs.Names.{map-append, IsSome, IsTrue, option_to_list, CallSign, octets_of_turn, Turn, kiss_frames, FrameValue, Finishes, FramesFor, NodeEvent, NodeEvents, TurnsBring, heard_at, hears, tick_of, ticks, Input, inputs_of, inputs_since, octet, octets_at, octets_in, tick, turn_inputs, turn_tick, Brings, Finds, HasHeard, HearsOctet, StationValue}
 use Rattle.node.proofs.InputLemmas.{octets_in-append, octets_in-at}
 
 -- ---- what octets finish

@@ -1,20 +1,8 @@
 -- The turns of a station on the air are turns of the station over its events.
 use Rattle.std.proofs.Common.{◌≡◌, ℕ, List, [], ◌++◌, length, Bool, true, false, Option, None, Result, Ok, Err, refl, sym, ap, ◌∙◌, ◌⊎◌, subst, inl, inr, append-nil}
-use Rattle.px_base.specs.CallSign.{CallSign}
-use Rattle.px_base.specs.declared.air.Air.{Ghosts as AirGhosts}
-use Rattle.px_base.specs.declared.air.Turn.{Turn}
-use Rattle.node.specs.Course.{AtDisk, Course, at}
-use Rattle.node.specs.Events.{NodeEvent, NodeEvents}
-use Rattle.node.specs.Inputs.{Input, inputs_of, octets_in}
-use Rattle.node.specs.OnAir.{Brings, inner, on_air}
-use Rattle.node.specs.Reading.{HasHeard}
-use Rattle.node.specs.Turns.{AreHandedOver, Brought, IsOpenBefore, Lent, RanBy, StoppedInLast, TookAll, TookTurns, lent}
-use Rattle.node.specs.declared.finished.Finished.{Finished}
 use Rattle.node.specs.declared.finished.Finished.TheVariants as finished
-use Rattle.node.specs.declared.on_air.OnAir.{OnAir}
-use Rattle.node.specs.declared.stop.NodeStop.{NodeStop}
 use Rattle.node.specs.declared.stop.NodeStop.TheVariants as stop
-use Rattle.node.specs.declared.terms.TurnTerms.{TurnTerms}
+use Rattle.node.proofs.Names.{CallSign, Ghosts as AirGhosts, Turn, AtDisk, Course, at, NodeEvent, NodeEvents, Input, inputs_of, octets_in, Brings, inner, on_air, HasHeard, AreHandedOver, Brought, IsOpenBefore, Lent, RanBy, StoppedInLast, TookAll, TookTurns, lent, Finished, OnAir, NodeStop, TurnTerms}
 use Rattle.node.proofs.BringsLemmas.{brings-then, events-brought}
 use Rattle.node.proofs.OnAirLemmas.{octets-nil}
 

@@ -1,14 +1,8 @@
 -- The events that turns bring: one list of them, and the frames among them.
 use Rattle.std.proofs.Common.{◌≡◌, ℕ, List, [], ◌∷◌, ◌++◌, refl, sym, ap, ◌∙◌, subst, inl, inr, append_assoc, append-nil}
-use Rattle.px_base.specs.CallSign.{CallSign}
-use Rattle.px_base.specs.Polling.{octets_heard, octets_of_turn}
-use Rattle.px_base.specs.declared.air.Turn.{Turn}
 use Rattle.px_base.specs.declared.air.Turn.TheVariants as turn
-use Rattle.std.specs.Prelude.{Bool, true, false, ◌==◌, drop, if◌then◌else◌}
-use Rattle.kiss.specs.KissText.{kiss_frames, kiss_parts}
-use Rattle.ax25_frames.specs.FrameText.{FrameValue}
-use Rattle.ax25_frames.specs.Laws.{IsOneFrame}
-use Rattle.node.specs.Events.{FramesFor, NodeEvent, NodeEvents, TurnsBring, frames_in, heard_at, tick_of, tick_since, ticks}
+use Rattle.std.specs.Prelude.{◌==◌, if◌then◌else◌}
+use Rattle.node.proofs.Names.{CallSign, octets_heard, octets_of_turn, Turn, Bool, true, false, drop, kiss_frames, kiss_parts, FrameValue, IsOneFrame, FramesFor, NodeEvent, NodeEvents, TurnsBring, frames_in, heard_at, tick_of, tick_since, ticks}
 
 -- frames of texts and of others
 frames-append : (me : CallSign) (texts others : List (List ℕ)) (frames more : List FrameValue) → FramesFor me texts frames → FramesFor me others more → FramesFor me (texts ++ others) (frames ++ more)

@@ -1,9 +1,6 @@
 -- What is found in the octets of the frame that was ended last.
 use Rattle.std.proofs.Common.{◌≡◌, ℕ, List, Option, Some, subst}
-use Rattle.std.specs.Prelude.{IfSome}
-use Rattle.ax25_frames.specs.FrameText.{FrameValue}
-use Rattle.node.specs.Reading.{Finds}
-use Rattle.node.specs.Station.{StationValue}
+use Rattle.node.proofs.Names.{IfSome, FrameValue, Finds, StationValue}
 
 pub found_in : (inside reader : StationValue) (octets : List ℕ) (frame : Option FrameValue) → inside ≡ reader → Some octets ≡ inside.ended → Finds inside.me octets frame → IfSome reader.ended (λ o. Finds reader.me o frame)
 found_in inside reader octets frame same ended found =

@@ -1,13 +1,7 @@
 -- Octets and ticks as what is handed over.
 use Rattle.std.proofs.Common.{◌≡◌, ℕ, ◌<◌, List, [], ◌∷◌, ◌++◌, refl, ap, sym, ◌∙◌, append_assoc, append-nil, drop, take, length, Bool, true, false, Some, unwrap_or, arith}
 use Rattle.std.specs.Prelude.{◌==◌, if◌then◌else◌}
-use Rattle.std.proofs.lemmas.Bool.{ne_eqb}
-use Rattle.std.proofs.lemmas.List.{map-append, take-append-drop}
-use Rattle.std.proofs.lemmas.List.Elements.{All-from_recursion, recursion_from_All}
-use Rattle.std.specs.List.{AllByRecursion}
-use Rattle.px_base.specs.Octets.{IsOctets}
-use Rattle.px_base.specs.declared.air.Turn.{Turn}
-use Rattle.node.specs.Inputs.{Input, IsInput, octet, octets_at, inputs_of, inputs_since, octets_in, tick, tick_after, turn_inputs}
+use Rattle.node.proofs.Names.{ne_eqb, map-append, take-append-drop, All-from_recursion, recursion_from_All, AllByRecursion, IsOctets, Turn, Input, IsInput, octet, octets_at, inputs_of, inputs_since, octets_in, tick, tick_after, turn_inputs}
 use Rattle.node.proofs.Invariants.{last_in}
 
 pub octets_at-append : (moment : ℕ) (xs ys : List ℕ) → octets_at moment (xs ++ ys) ≡ octets_at moment xs ++ octets_at moment ys

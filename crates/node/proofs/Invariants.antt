@@ -1,15 +1,6 @@
 -- What the node's loops keep.
-use Rattle.std.specs.Prelude.{◌≡◌, ℕ, List, [], ◌∷◌, ◌++◌, length, Option, None, Some}
-use Rattle.std.specs.List.{AllByRecursion}
-use Rattle.px_base.specs.Outside.{Gains}
-use Rattle.px_base.specs.Polling.{HearsAll, IsOpen}
-use Rattle.px_base.specs.declared.air.Air.{Ghosts as AirGhosts}
-use Rattle.px_base.specs.declared.air.Turn.{Turn}
-use Rattle.node.specs.Course.{AtDisk, Course}
-use Rattle.node.specs.Inputs.{Input, inputs_of}
-use Rattle.node.specs.Turns.{AreHandedOver, IsOpenBefore, Lent, MomentsTaken, party_at}
-use Rattle.disk_model.specs.declared.halt.Halt.{Halt}
-use Rattle.node.specs.declared.terms.TurnTerms.{TurnTerms}
+use Rattle.std.specs.Prelude.{◌≡◌, ◌∷◌, ◌++◌}
+use Rattle.node.proofs.Names.{ℕ, List, [], length, Option, None, Some, AllByRecursion, Gains, HearsAll, IsOpen, Ghosts as AirGhosts, Turn, AtDisk, Course, Input, inputs_of, AreHandedOver, IsOpenBefore, Lent, MomentsTaken, party_at, Halt, TurnTerms}
 
 -- the loop over texts that are said
 pub record IsSaying {P D A : Type 0} (course : Course P D Input) (air : AirGhosts A) (before now : A) (old new : AtDisk P D) : Type 0 where

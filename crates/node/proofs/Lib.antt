@@ -9,3 +9,4 @@ mod SayingLemmas
 mod SomeFrames
 mod TurnLemmas
 mod TurnsLemmas
+mod Names

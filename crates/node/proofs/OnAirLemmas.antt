@@ -1,21 +1,6 @@
 -- The course of a station on the air.
 use Rattle.std.proofs.Common.{◌≡◌, ◌<◌, ◌+◌, ℕ, Option, None, Some, List, [], ◌∷◌, ◌++◌, refl, sym, ap, ◌∙◌, subst, append_assoc, append-nil, take, drop, length, ◌-◌, arith, length-drop}
-use Rattle.std.specs.List.{AllByRecursion}
-use Rattle.std.specs.Prelude.{⊤}
-use Rattle.std.proofs.lemmas.List.{drop-take, take-append-drop, take-take, take_all}
-use Rattle.std.proofs.lemmas.List.Elements.{All-append, All-from_recursion, All-nil, All-take}
-use Rattle.px_base.specs.CallSign.{CallSign}
-use Rattle.px_base.specs.Octets.{IsOctets}
-use Rattle.ax25_frames.specs.FrameText.{FrameValue}
-use Rattle.node.specs.Course.{AtDisk, Course, GaveAll, GivesNext, IsLawful, at}
-use Rattle.node.specs.Events.{Finishes, NodeEvent, heard_at, ticks}
-use Rattle.node.specs.Inputs.{Input, IsInput, octet, octets_at, octets_in, tick}
-use Rattle.node.specs.Laws.{SomeFramesLaw}
-use Rattle.node.specs.OnAir.{Brings, BringsOver, HasHeardSome, StaysOnAir, inner, on_air}
-use Rattle.node.specs.Reading.{HasHeard, HearsRun}
-use Rattle.node.specs.Station.{StationValue}
-use Rattle.disk_model.specs.declared.halt.Halt.{Halt}
-use Rattle.node.specs.declared.on_air.OnAir.{OnAir}
+use Rattle.node.proofs.Names.{AllByRecursion, ⊤, drop-take, take-append-drop, take-take, take_all, All-append, All-from_recursion, All-nil, All-take, CallSign, IsOctets, FrameValue, AtDisk, Course, GaveAll, GivesNext, IsLawful, at, Finishes, NodeEvent, heard_at, ticks, Input, IsInput, octet, octets_at, octets_in, tick, SomeFramesLaw, Brings, BringsOver, HasHeardSome, StaysOnAir, inner, on_air, HasHeard, HearsRun, StationValue, Halt, OnAir}
 use Rattle.node.proofs.BringsLemmas.{brings-octet, brings-run, brings-then}
 use Rattle.node.proofs.InputLemmas.{are-octets, octets_at-append, octets_in-append, octets_in-at}
 

@@ -1,19 +1,9 @@
 -- What a party gives is said, and what it took by that.
 use Rattle.std.proofs.Common.{◌≡◌, ℕ, ◌≤◌, List, [], ◌++◌, Bool, true, false, None, Some, Result, Ok, Err, refl, sym, ap, ◌∙◌, subst, append_assoc, append-nil, arith}
 use Rattle.std.proofs.lemmas.Result.{err_from_is_err_and}
-use Rattle.std.specs.Prelude.{IsErrAnd, ⊤}
-use Rattle.std.specs.List.{AllByRecursion}
-use Rattle.px_base.specs.Outside.{Gains, GainsPrefix, HasCause}
-use Rattle.px_base.specs.declared.air.Air.{Ghosts as AirGhosts}
-use Rattle.px_base.specs.declared.air.AirDown.{AirDown}
-use Rattle.px_base.proofs.Told.{Gains-front, Gains-none, Gains-trans}
-use Rattle.node.specs.Course.{AtDisk, Course, GaveAll, GivesNext, IsLawful, stop_at_put, stop_of}
-use Rattle.node.specs.Inputs.{Input, IsInput}
-use Rattle.node.specs.Turns.{CountsBy, IsByParty, IsUnsaid, SaysAll, Takes}
-use Rattle.disk_model.specs.declared.halt.Halt.{Halt}
 use Rattle.disk_model.specs.declared.halt.Halt.TheVariants as halt
-use Rattle.node.specs.declared.stop.NodeStop.{NodeStop}
 use Rattle.node.specs.declared.stop.NodeStop.TheVariants as stop
+use Rattle.node.proofs.Names.{IsErrAnd, ⊤, AllByRecursion, Gains, GainsPrefix, HasCause, Ghosts as AirGhosts, AirDown, Gains-front, Gains-none, Gains-trans, AtDisk, Course, GaveAll, GivesNext, IsLawful, stop_at_put, stop_of, Input, IsInput, CountsBy, IsByParty, IsUnsaid, SaysAll, Takes, Halt, NodeStop}
 use Rattle.node.proofs.Invariants.{IsSaying}
 
 -- what holds of the error that a `?` hands on holds of the result

@@ -1,22 +1,13 @@
 -- Octets finish some frames for a station.
 use Rattle.std.proofs.Common.{◌≡◌, ℕ, ◌<◌, List, [], ◌∷◌, ◌++◌, Bool, true, false, ◌&&◌, refl, sym, ◌∙◌, ap, ap₂, subst, inl, inr, true≢false}
-use Rattle.std.specs.Prelude.{bytes_eq, ◌==◌, if◌then◌else◌}
+use Rattle.std.specs.Prelude.{◌==◌, if◌then◌else◌}
 use Rattle.std.specs.Bool.{Decides}
-use Rattle.std.specs.List.{AllByRecursion, filter_map, list_any}
 use Rattle.std.proofs.lemmas.Bool.Decides.{Decides-eqb}
-use Rattle.std.proofs.lemmas.Bool.{cases_Bool}
-use Rattle.std.proofs.lemmas.List.Elements.{All-from_recursion, recursion_from_All}
 use Rattle.std.proofs.lemmas.Slice.Eq.{bytes_eq-Decides}
-use Rattle.px_base.specs.CallSign.{CallSign}
-use Rattle.px_base.specs.Octets.{IsOctets}
 use Rattle.kiss.specs.declared.whole.Part.{Part}
 use Rattle.kiss.specs.declared.whole.Part.TheVariants.{Frame, Dropped, Passed}
-use Rattle.kiss.specs.KissText.{frame_of, from_last_fend, is_fend, kiss_frames, kiss_parts}
 use Rattle.kiss.specs.Laws.{FramesGoOn, FramesHaveOctets, HasOctets}
-use Rattle.ax25_frames.specs.FrameText.{FrameValue}
-use Rattle.ax25_frames.specs.Laws.{IsFrameOrFault, IsNoFrame, IsOneFrame}
-use Rattle.node.specs.Events.{FramesFor, IsFor}
-use Rattle.node.specs.Laws.{SomeFramesLaw}
+use Rattle.node.proofs.Names.{bytes_eq, AllByRecursion, filter_map, list_any, cases_Bool, All-from_recursion, recursion_from_All, CallSign, IsOctets, frame_of, from_last_fend, is_fend, kiss_frames, kiss_parts, FrameValue, IsFrameOrFault, IsNoFrame, IsOneFrame, FramesFor, IsFor, SomeFramesLaw}
 
 both : (a b : Bool) {P Q : Type 0} → Decides a P → Decides b Q → Decides (a && b) (P × Q)
 both true b first second = (λ h. (first.0 refl, second.0 h), λ pq. second.1 pq.1)

@@ -1,16 +1,8 @@
 -- One turn: what was polled, and what the party made of it.
 use Rattle.std.proofs.Common.{◌≡◌, ℕ, List, Bool, true, false, Option, Result, Ok, Err, refl, sym, ◌∙◌, subst}
-use Rattle.std.specs.Prelude.{⊤}
-use Rattle.px_base.specs.Outside.{Rose}
-use Rattle.px_base.specs.Polling.{Hears, IsOpen}
-use Rattle.px_base.specs.declared.air.Air.{Ghosts as AirGhosts}
-use Rattle.px_base.specs.declared.air.Turn.{Turn}
 use Rattle.px_base.specs.declared.air.Turn.TheVariants as turn
-use Rattle.node.specs.Course.{AtDisk, Course, IsLawful}
-use Rattle.node.specs.Inputs.{Input, IsInput, turn_inputs}
-use Rattle.node.specs.Turns.{IsByParty, Takes, TookTurn, TurnEnds}
-use Rattle.node.specs.declared.stop.NodeStop.{NodeStop}
 use Rattle.node.specs.declared.stop.NodeStop.TheVariants as stop
+use Rattle.node.proofs.Names.{⊤, Rose, Hears, IsOpen, Ghosts as AirGhosts, Turn, AtDisk, Course, IsLawful, Input, IsInput, turn_inputs, IsByParty, Takes, TookTurn, TurnEnds, NodeStop}
 use Rattle.node.proofs.SayingLemmas.{counts-from, takes-none}
 
 module _ {P D A : Type 0} (course : Course P D Input) (air : AirGhosts A) (before polled : A) (old : AtDisk P D) (last moment : ℕ)

@@ -1,24 +1,11 @@
 -- The turns of a node, one after another.
 use Rattle.std.proofs.Common.{◌≡◌, ◌⊎◌, ℕ, zero, suc, ◌+◌, ◌<◌, ◌≤◌, List, [], ◌∷◌, ◌++◌, length, Bool, true, false, Option, None, Some, Result, Ok, Err}
 use Rattle.std.proofs.Common.{refl, sym, ap, ◌∙◌, subst, inl, inr, length-append, unwrap_or, arith}
-use Rattle.std.specs.List.{AllByRecursion}
-use Rattle.std.specs.Prelude.{⊤}
 use Rattle.px_base.specs.Moments.{MomentsOf}
-use Rattle.px_base.specs.Outside.{Gains}
-use Rattle.px_base.specs.Polling.{HearsAll, IsOpen}
-use Rattle.px_base.specs.declared.air.Air.{Ghosts as AirGhosts}
-use Rattle.px_base.specs.declared.air.AirDown.{AirDown}
-use Rattle.px_base.specs.declared.air.Turn.{Turn}
 use Rattle.px_base.specs.declared.air.Turn.TheVariants as turn
-use Rattle.px_base.proofs.Told.{Gains-trans, Grows-none, Grows-trans}
-use Rattle.node.specs.Course.{AtDisk, Course, IsLawful}
-use Rattle.node.specs.Inputs.{Input, IsInput, inputs_of, turn_inputs}
-use Rattle.node.specs.Turns.{AreHandedOver, Brought, HasAirCause, IsOpenBefore, IsUnsaid, Lent, MomentsFrom, MomentsTaken, NextMoment, RanBy, SaysAll, StoppedInLast, Takes, TookAll, TookTurn, TookTurns, TurnsBy, party_at}
-use Rattle.node.specs.declared.finished.Finished.{Finished}
 use Rattle.node.specs.declared.finished.Finished.TheVariants as finished
-use Rattle.node.specs.declared.stop.NodeStop.{NodeStop}
 use Rattle.node.specs.declared.stop.NodeStop.TheVariants as stop
-use Rattle.node.specs.declared.terms.TurnTerms.{TurnTerms}
+use Rattle.node.proofs.Names.{AllByRecursion, ⊤, Gains, HearsAll, IsOpen, Ghosts as AirGhosts, AirDown, Turn, Gains-trans, Grows-none, Grows-trans, AtDisk, Course, IsLawful, Input, IsInput, inputs_of, turn_inputs, AreHandedOver, Brought, HasAirCause, IsOpenBefore, IsUnsaid, Lent, MomentsFrom, MomentsTaken, NextMoment, RanBy, SaysAll, StoppedInLast, Takes, TookAll, TookTurn, TookTurns, TurnsBy, party_at, Finished, NodeStop, TurnTerms}
 use Rattle.node.proofs.InputLemmas.{inputs-turn, last-more}
 use Rattle.node.proofs.Invariants.{IsTurning}
 use Rattle.node.proofs.SayingLemmas.{counts-from, unsaid-from}

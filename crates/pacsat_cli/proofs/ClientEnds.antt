@@ -1,42 +1,16 @@
 -- What the end of a client's command says of its counts, its disk's content and its output.
 use Rattle.std.proofs.Common.{◌≡◌, ℕ, List, arith, refl, ap, sym, subst, ◌∙◌, inl, inr, Bool, true, false}
-use Rattle.std.proofs.lemmas.Result.{err_from_is_err_and}
-use Rattle.std.specs.Prelude.{codes, ◌⊎◌, Option, None, Some, IfSome, IsTrue, Result, Ok, Err, IsErrAnd, IsErrOf, MatchResult, ⊤}
-use Rattle.px_base.specs.Outside.{Rose}
-use Rattle.px_base.specs.Shelves.{Holding}
+use Rattle.std.specs.Prelude.{◌⊎◌}
 use Rattle.px_base.specs.declared.out.Out.{Ghosts as OutGhosts}
 use Rattle.px_base.specs.declared.shelf.Shelf.{Ghosts as ShelfGhosts}
 use Rattle.file_store.specs.Calls.{Runs}
-use Rattle.uploader.specs.Command.{NotesCommand}
-use Rattle.uploader.specs.Notes.{Lists}
 use Rattle.uploader.specs.State.{standing_of as notes_standing}
-use Rattle.uploader.specs.Begun.{Begun}
 use Rattle.uploader.specs.Begun.TheVariants as begun
-use Rattle.uploader.specs.NotesRefusal.{NotesRefusal}
-use Rattle.ftl0_client.specs.declared.outcome.Outcome.{Outcome}
-use Rattle.uploader.specs.declared.stop.SendStop.{SendStop}
 use Rattle.uploader.specs.declared.stop.SendStop.TheVariants as stop
-use Rattle.uploader.specs.declared.sum.FileSum.{FileSum}
-use Rattle.uploader.specs.declared.terms.ClientTerms.{ClientTerms}
-use Rattle.uploader.specs.declared.terms.Sent.{Sent}
-use Rattle.node.specs.Lent.{Lent, Seen}
 use Rattle.node.specs.declared.stop.NodeStop.TheVariants as node
-use Rattle.uploader.specs.Carried.{Asked, Carries, IsUnrecovered}
-use Rattle.uploader.specs.Fetching.{FetchEnds, KeepsBy, file_asked}
-use Rattle.uploader.specs.Listing.{ListEnds, ShowsBy, files_asked}
-use Rattle.uploader.specs.Loading.{IsUnfit, sum_of}
 use Rattle.uploader.specs.OnDisk.{EndsExactly, RefusesNotes}
-use Rattle.uploader.specs.Sending.{EndsAtStart, IsUnloaded, IsUnnoted, IsUnstarted, SendEnds, first_command, last_answer}
-use Rattle.uploader.specs.Stops.{stop_of_start}
-use Rattle.uploader.proofs.CarryLemmas.{turned}
-use Rattle.command_words.specs.Words.{AsksClient, AsksFetch, AsksList, AsksSend}
-use Rattle.pacsat_cli.specs.Status.{numbered_line}
-use Rattle.pacsat_cli.specs.declared.status.Status.{Status}
 use Rattle.pacsat_cli.specs.declared.status.Status.TheVariants as status
-use Rattle.pacsat_cli.specs.Clients.{Closes, FetchRan, ListRan, SendRan, outside}
-use Rattle.pacsat_cli.specs.Run.{HasStatusCause}
-use Rattle.pacsat_cli.specs.Sessions.{HasDiskCause, HasReadCause, HasWriteCause, MayPassOver, RefusesExactly, is_of_file, may_have_outcome}
-use Rattle.pacsat_cli.specs.Stops.{status_of_end, status_of_stop}
+use Rattle.pacsat_cli.proofs.Names.{err_from_is_err_and, codes, Option, None, Some, IfSome, IsTrue, Result, Ok, Err, IsErrAnd, IsErrOf, MatchResult, ⊤, Rose, Holding, NotesCommand, Lists, Begun, NotesRefusal, Outcome, SendStop, FileSum, ClientTerms, Sent, Lent, Seen, Asked, Carries, IsUnrecovered, FetchEnds, KeepsBy, file_asked, ListEnds, ShowsBy, files_asked, IsUnfit, sum_of, EndsAtStart, IsUnloaded, IsUnnoted, IsUnstarted, SendEnds, first_command, last_answer, stop_of_start, turned, AsksClient, AsksFetch, AsksList, AsksSend, numbered_line, Status, Closes, FetchRan, ListRan, SendRan, outside, HasStatusCause, HasDiskCause, HasReadCause, HasWriteCause, MayPassOver, RefusesExactly, is_of_file, may_have_outcome, status_of_end, status_of_stop}
 use Rattle.pacsat_cli.proofs.ClientStops.{AirBy, StatusBy, air-along, air-carried, air-free, air-stayed, client-status, done-ok, fault-carried, fault-not_air, is_carried, is_client_status, is_of_air, is_out, node-carried, past-file, start-not_air, start-not_out, stop-back, stop_of_status, stopped-by}
 
 -- the lines of a file that is sent and of one that is fetched

@@ -1,29 +1,17 @@
 -- How a client's command is stopped, and which status that is.
 use Rattle.std.proofs.Common.{◌≡◌, ℕ, refl, ap, sym, ◌∙◌, inl, inr, Bool, true, false, List, ◌⊎◌, Option, None, Some, IsErrOf, IsTrue, Result, Ok, Err}
-use Rattle.px_base.specs.Outside.{Rose}
-use Rattle.px_base.specs.declared.air.Turn.{Turn}
-use Rattle.uploader.specs.NotesRefusal.{NotesRefusal}
 use Rattle.uploader.specs.NotesRefusal.TheVariants as refusal
 use Rattle.uploader.specs.StoreFault.{StoreFault}
 use Rattle.uploader.specs.StoreFault.TheVariants as fault
-use Rattle.ftl0_client.specs.declared.outcome.Outcome.{Outcome}
-use Rattle.node.specs.Turns.{TurnsBy}
-use Rattle.node.specs.declared.finished.Finished.{Finished}
-use Rattle.node.specs.declared.stop.NodeStop.{NodeStop}
 use Rattle.node.specs.declared.stop.NodeStop.TheVariants as node
 use Rattle.uploader.specs.Turns.Carried.{CountsWhere}
-use Rattle.uploader.specs.declared.stop.SendStop.{SendStop}
 use Rattle.uploader.specs.declared.stop.SendStop.TheVariants as stop
-use Rattle.uploader.specs.declared.sum.FileSum.{FileSum}
-use Rattle.uploader.specs.Loading.{IsPastFile, is_of_file as is_stop_of_file}
-use Rattle.uploader.specs.Stops.{answer_of, stop_of_fault, stop_of_start, stop_of_turns}
-use Rattle.uploader.proofs.CarryLemmas.{of_answer, of_turns, turned}
+use Rattle.uploader.specs.Loading.{is_of_file as is_stop_of_file}
+use Rattle.uploader.specs.Stops.{stop_of_fault}
 use Rattle.pacsat_cli.specs.declared.status.BadStore.TheVariants as bad
 use Rattle.pacsat_cli.specs.declared.status.RefusedBy.TheVariants as by
-use Rattle.pacsat_cli.specs.declared.status.Status.{Status}
 use Rattle.pacsat_cli.specs.declared.status.Status.TheVariants as status
-use Rattle.pacsat_cli.specs.Sessions.{is_of_file, may_have_outcome}
-use Rattle.pacsat_cli.specs.Stops.{status_of_stop}
+use Rattle.pacsat_cli.proofs.Names.{Rose, Turn, NotesRefusal, Outcome, TurnsBy, Finished, NodeStop, SendStop, FileSum, IsPastFile, answer_of, stop_of_start, stop_of_turns, of_answer, of_turns, turned, Status, is_of_file, may_have_outcome, status_of_stop}
 
 -- the stop that a status is of, where it is of one
 abbrev pub stop_of_status : Status → Option SendStop

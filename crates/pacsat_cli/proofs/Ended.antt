@@ -1,22 +1,11 @@
 -- How a session or a service ended, as its status says.
 use Rattle.std.proofs.Common.{◌≡◌, ℕ, List, refl, ap, sym, subst, ◌∙◌, inl, inr, Bool, true, false, arith}
-use Rattle.std.specs.Prelude.{Result, Ok, Err}
-use Rattle.px_base.specs.Polling.{EndsWith, HasEnd}
-use Rattle.px_base.specs.declared.air.Turn.{Turn}
 use Rattle.px_base.specs.declared.air.Turn.TheVariants as turn
 use Rattle.server_node.specs.Served.{TurnsBy}
-use Rattle.server_node.specs.Stops.{CountsBy}
-use Rattle.node.specs.declared.stop.NodeStop.{NodeStop}
 use Rattle.node.specs.declared.stop.NodeStop.TheVariants as stop
-use Rattle.server_node.specs.declared.terms.Served.{Served}
-use Rattle.command_words.specs.declared.disk.DiskWord.{DiskWord}
-use Rattle.command_words.specs.declared.disk.DiskWord.TheVariants.{Fresh, Named}
 use Rattle.pacsat_cli.specs.declared.status.BadStore.TheVariants as bad
-use Rattle.pacsat_cli.specs.declared.status.Status.{Status}
 use Rattle.pacsat_cli.specs.declared.status.Status.TheVariants as status
-use Rattle.pacsat_cli.specs.Run.{HasStatusCause}
-use Rattle.pacsat_cli.specs.Sessions.{HasWriteCause, AsksFresh, AsksStore, IsSpentBy, disk_fault}
-use Rattle.pacsat_cli.specs.Stops.{status_in_memory, status_of}
+use Rattle.pacsat_cli.proofs.Names.{Result, Ok, Err, EndsWith, HasEnd, Turn, CountsBy, NodeStop, Served, DiskWord, Fresh, Named, Status, HasStatusCause, HasWriteCause, AsksFresh, AsksStore, IsSpentBy, disk_fault, status_in_memory, status_of}
 use Rattle.pacsat_cli.proofs.OpenTurns.{ends_with-not_open, failed-no_end, open-no_end}
 
 -- the status over this disk

@@ -1,34 +1,13 @@
 -- The status of `fetch` and of `list`, exactly.
 use Rattle.std.proofs.Common.{◌≡◌, ℕ, List, [], refl, ap, sym, subst, ◌∙◌, inl, inr}
-use Rattle.std.proofs.lemmas.Result.{err_from_is_err_and}
-use Rattle.std.specs.Prelude.{Contains, Option, IfOk, Result, Ok, Err, IsErrAnd, ⊤}
-use Rattle.px_base.specs.Shelves.{Holding}
 use Rattle.px_base.specs.declared.out.Out.{Ghosts as OutGhosts}
 use Rattle.px_base.specs.declared.shelf.Shelf.{Ghosts as ShelfGhosts}
-use Rattle.disk_model.specs.declared.disk.Disk.{Ghosts}
-use Rattle.node.specs.Laws.{OneRunLaw}
-use Rattle.node.specs.Lent.{Lent, Seen}
-use Rattle.uploader.specs.Notes.{Lists}
 use Rattle.uploader.specs.StoreFault.{StoreFault}
 use Rattle.ftl0_client.specs.Table.{JobState}
-use Rattle.ftl0_client.specs.Going.{StaysLaw}
-use Rattle.ftl0_client.specs.Laws.{OneStepLaw}
-use Rattle.ftl0_client.specs.declared.outcome.Outcome.{Outcome}
 use Rattle.ftl0_client.specs.declared.outcome.Outcome.TheVariants as outcome
-use Rattle.uploader.specs.declared.stop.SendStop.{SendStop}
-use Rattle.uploader.specs.declared.terms.ClientTerms.{ClientTerms}
-use Rattle.uploader.specs.Carried.{Carries, IsUnrecovered, RecoversTo, asked_of}
-use Rattle.uploader.specs.Fetching.{KeepsBy, file_asked}
-use Rattle.uploader.specs.Led.{ComesBy, IsLedTo}
-use Rattle.uploader.specs.Listing.{ShowsBy, files_asked}
 use Rattle.uploader.specs.Stops.{stop_of_fault}
-use Rattle.uploader.proofs.LedLemmas.{led-law}
-use Rattle.uploader.proofs.StartLemmas.{told_recovered, told_refused}
-use Rattle.pacsat_cli.specs.declared.status.Status.{Status}
 use Rattle.pacsat_cli.specs.declared.status.Status.TheVariants as status
-use Rattle.pacsat_cli.specs.Clients.{FetchRan, ListRan, RunsFetch, RunsList, client_terms, outside}
-use Rattle.pacsat_cli.specs.Exactly.{FetchEndsExactly, FetchLed, IsCause, IsNoFault, IsWanted, ListEndsExactly, ListLed, NotesTold}
-use Rattle.pacsat_cli.specs.Stops.{status_of_stop}
+use Rattle.pacsat_cli.proofs.Names.{err_from_is_err_and, Contains, Option, IfOk, Result, Ok, Err, IsErrAnd, ⊤, Holding, Ghosts, OneRunLaw, Lent, Seen, Lists, StaysLaw, OneStepLaw, Outcome, SendStop, ClientTerms, Carries, IsUnrecovered, RecoversTo, asked_of, KeepsBy, file_asked, ComesBy, IsLedTo, ShowsBy, files_asked, led-law, told_recovered, told_refused, Status, FetchRan, ListRan, RunsFetch, RunsList, client_terms, outside, FetchEndsExactly, FetchLed, IsCause, IsNoFault, IsWanted, ListEndsExactly, ListLed, NotesTold, status_of_stop}
 use Rattle.pacsat_cli.proofs.ClientEnds.{closes-status, end-status, keeps-along, shows-along, fetched_line}
 use Rattle.pacsat_cli.proofs.ClientStops.{StatusBy}
 use Rattle.pacsat_cli.proofs.ExactJob.{EndsAs, at-disk, at-memory, at-out, at-shelf, comes-exactly, no-fault, faults}

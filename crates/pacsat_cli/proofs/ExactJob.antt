@@ -1,25 +1,14 @@
 -- The status of a client's command that came to its job, by what the definition makes of that.
 use Rattle.std.proofs.Common.{◌≡◌, ℕ, List, [], ◌∷◌, ◌++◌, length, refl, ap, sym, subst, ◌∙◌, inl, inr, arith, true}
-use Rattle.std.specs.Prelude.{◌≢◌, ◌⊎◌, Contains, Result, Ok, Err}
-use Rattle.px_base.specs.Polling.{EndsWith, HasEnd}
-use Rattle.px_base.specs.declared.air.Turn.{Turn}
+use Rattle.std.specs.Prelude.{◌≢◌, ◌⊎◌}
 use Rattle.px_base.specs.declared.air.Turn.TheVariants as turn
-use Rattle.ftl0_client.specs.declared.outcome.Outcome.{Outcome}
 use Rattle.ftl0_client.specs.declared.outcome.Outcome.TheVariants as outcome
-use Rattle.node.specs.Turns.{TurnsBy}
-use Rattle.node.specs.declared.finished.Finished.{Finished}
 use Rattle.node.specs.declared.finished.Finished.TheVariants as finished
-use Rattle.node.specs.declared.stop.NodeStop.{NodeStop}
 use Rattle.node.specs.declared.stop.NodeStop.TheVariants as node
-use Rattle.uploader.specs.declared.stop.SendStop.{SendStop}
 use Rattle.uploader.specs.declared.stop.SendStop.TheVariants as stop
-use Rattle.uploader.specs.Led.{ComesBy, IsCutShort, is_of_turns}
-use Rattle.uploader.specs.Stops.{by_outcome, stop_of_turns}
 use Rattle.pacsat_cli.specs.declared.status.RefusedBy.TheVariants as by_whom
-use Rattle.pacsat_cli.specs.declared.status.Status.{Status}
 use Rattle.pacsat_cli.specs.declared.status.Status.TheVariants as status
-use Rattle.pacsat_cli.specs.Exactly.{IsCause, IsLinkDown, IsNoFault, IsWanted}
-use Rattle.pacsat_cli.specs.Stops.{status_of_stop}
+use Rattle.pacsat_cli.proofs.Names.{Contains, Result, Ok, Err, EndsWith, HasEnd, Turn, Outcome, TurnsBy, Finished, NodeStop, SendStop, ComesBy, IsCutShort, is_of_turns, by_outcome, stop_of_turns, Status, IsCause, IsLinkDown, IsNoFault, IsWanted, status_of_stop}
 use Rattle.pacsat_cli.proofs.ClientStops.{StatusBy}
 use Rattle.pacsat_cli.proofs.OpenTurns.{ends_with-not_open, failed-no_end}
 

@@ -1,42 +1,17 @@
 -- The status of `send`, exactly.
 use Rattle.std.proofs.Common.{◌≡◌, ℕ, List, length, refl, ap, sym, subst, ◌∙◌, inl, inr, arith, true, false}
-use Rattle.std.proofs.lemmas.Result.{err_from_is_err_and}
-use Rattle.std.specs.Prelude.{◌⊎◌, Option, None, Some, IfSome, Result, Ok, Err, MatchResult}
-use Rattle.px_base.specs.Shelves.{Holding, content_of}
+use Rattle.std.specs.Prelude.{◌⊎◌}
 use Rattle.px_base.specs.declared.out.Out.{Ghosts as OutGhosts}
 use Rattle.px_base.specs.declared.shelf.Shelf.{Ghosts as ShelfGhosts}
 use Rattle.file_store.proofs.Offered.{told_weaker}
-use Rattle.node.specs.Laws.{OneRunLaw}
-use Rattle.node.specs.Lent.{Lent, Seen}
-use Rattle.header_tool.specs.Faults.{fault_code}
 use Rattle.uploader.specs.Answers.{IsFull}
-use Rattle.uploader.specs.Command.{NotesCommand}
-use Rattle.uploader.specs.Notes.{Lists}
-use Rattle.uploader.specs.Begun.{Begun}
 use Rattle.uploader.specs.Begun.TheVariants as begun
-use Rattle.uploader.specs.NotesRefusal.{NotesRefusal}
 use Rattle.uploader.specs.NotesRefusal.TheVariants as refusal
-use Rattle.ftl0_client.specs.Going.{StaysLaw}
-use Rattle.ftl0_client.specs.Laws.{OneStepLaw}
-use Rattle.ftl0_client.specs.declared.outcome.Outcome.{Outcome}
 use Rattle.ftl0_client.specs.declared.outcome.Outcome.TheVariants as outcome
-use Rattle.uploader.specs.declared.stop.SendStop.{SendStop}
 use Rattle.uploader.specs.declared.stop.SendStop.TheVariants as stop
-use Rattle.uploader.specs.declared.sum.FileSum.{FileSum}
-use Rattle.uploader.specs.declared.terms.ClientTerms.{ClientTerms}
-use Rattle.uploader.specs.declared.terms.Sent.{Sent}
-use Rattle.uploader.specs.Carried.{asked_of}
-use Rattle.uploader.specs.Led.{ComesBy, IsLedTo}
-use Rattle.uploader.specs.Loading.{IsSendable, IsUnfit, sum_of}
-use Rattle.uploader.specs.Sending.{EndsAtStart, IsTaskFor, IsUnloaded, IsUnnoted, IsUnstarted, Uploads, first_command, last_answer, upload_of}
-use Rattle.uploader.proofs.LedLemmas.{led-law}
-use Rattle.uploader.proofs.StartLemmas.{IsOfTask, of_task}
 use Rattle.command_words.specs.declared.terms.ClientTerms.{ClientTerms as AskedTerms}
-use Rattle.pacsat_cli.specs.declared.status.Status.{Status}
 use Rattle.pacsat_cli.specs.declared.status.Status.TheVariants as status
-use Rattle.pacsat_cli.specs.Clients.{RunsSend, SendRan, client_terms, outside}
-use Rattle.pacsat_cli.specs.Exactly.{FileRefusedExactly, IsNoFault, SendEndsExactly, SendRefuses, SendStarts, SendTold, StartsExactly, UploadLed}
-use Rattle.pacsat_cli.specs.Stops.{status_of_stop}
+use Rattle.pacsat_cli.proofs.Names.{err_from_is_err_and, Option, None, Some, IfSome, Result, Ok, Err, MatchResult, Holding, content_of, OneRunLaw, Lent, Seen, fault_code, NotesCommand, Lists, Begun, NotesRefusal, StaysLaw, OneStepLaw, Outcome, SendStop, FileSum, ClientTerms, Sent, asked_of, ComesBy, IsLedTo, IsSendable, IsUnfit, sum_of, EndsAtStart, IsTaskFor, IsUnloaded, IsUnnoted, IsUnstarted, Uploads, first_command, last_answer, upload_of, led-law, IsOfTask, of_task, Status, RunsSend, SendRan, client_terms, outside, FileRefusedExactly, IsNoFault, SendEndsExactly, SendRefuses, SendStarts, SendTold, StartsExactly, UploadLed, status_of_stop}
 use Rattle.pacsat_cli.proofs.ClientEnds.{carries-kind, closes-status, match-err, acked_line}
 use Rattle.pacsat_cli.proofs.ClientStops.{StatusBy, is_carried, stopped-by}
 use Rattle.pacsat_cli.proofs.ExactCarried.{recovered-start, unrecovered-never}

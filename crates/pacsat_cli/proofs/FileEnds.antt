@@ -1,11 +1,7 @@
 -- How a command that shows a file ended, by the content of the name.
 use Rattle.std.proofs.Common.{◌≡◌, ℕ, ◌<◌, List, length, refl, ap, sym, ◌∙◌, inl, inr, arith}
-use Rattle.std.specs.Prelude.{Option, None, Some}
-use Rattle.command_words.specs.declared.command.FileCommand.{FileCommand}
 use Rattle.pacsat_cli.specs.declared.status.RefusedBy.TheVariants as by
-use Rattle.pacsat_cli.specs.declared.status.Status.{Status}
-use Rattle.pacsat_cli.specs.declared.status.Status.TheVariants.{Done, Refused, NoSuch, OutOfMemory, Out, Shelf, TooLong}
-use Rattle.pacsat_cli.specs.Files.{FileEnd, FileText, IsNoSuchBy, IsShownBy, IsTooLongBy, end_of, most_octets}
+use Rattle.pacsat_cli.proofs.Names.{Option, None, Some, FileCommand, Status, Done, Refused, NoSuch, OutOfMemory, Out, Shelf, TooLong, FileEnd, FileText, IsNoSuchBy, IsShownBy, IsTooLongBy, end_of, most_octets}
 
 -- content that isn't there isn't content that may be shown
 text-none : (command : FileCommand) (content : Option (List ℕ)) (all : List ℕ) (last : Status) → FileText command content all last → content ≡ None → ⊥

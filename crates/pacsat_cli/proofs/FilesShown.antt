@@ -1,21 +1,11 @@
 -- A command shows its text of octets, and so of the content that was loaded.
 use Rattle.std.proofs.Common.{◌≡◌, ℕ, ◌≤◌, List, [], length, refl, ap, sym, subst, ◌∙◌, inl, inr, true}
-use Rattle.std.proofs.lemmas.Bool.{ne_eqb}
-use Rattle.std.specs.Prelude.{Option, None, Some, IfSome, IfOk, Ok, Err, Result}
 use Rattle.px_base.specs.declared.memory.OutOfMemory.{OutOfMemory as NoMemory}
-use Rattle.px_base.specs.declared.shelf.ShelfRefusal.{ShelfRefusal}
 use Rattle.px_base.specs.declared.shelf.ShelfRefusal.TheVariants as refusal
-use Rattle.px_base.specs.Outside.{Gains, GainsPrefix, Rose}
-use Rattle.px_base.specs.Shelves.{Holding, Loads, content_of}
-use Rattle.px_base.proofs.Told.{Gains-front, Gains-none}
-use Rattle.header_tool.specs.Faults.{fault_code}
 use Rattle.header_tool.specs.declared.shown.Shown.{Shown}
 use Rattle.header_tool.specs.Lines.{IsCodeOf}
-use Rattle.command_words.specs.declared.command.FileCommand.{FileCommand}
-use Rattle.pacsat_cli.specs.declared.status.Status.{Status}
 use Rattle.pacsat_cli.specs.declared.status.Status.TheVariants as status
-use Rattle.pacsat_cli.specs.Files.{FileEnd, FileShown, IsTextOf, IsTextPut, OctetsShown, checks_headers, code_status, end_of, fault_status, is_file_status, most_octets}
-use Rattle.pacsat_cli.specs.Stops.{status_of_load}
+use Rattle.pacsat_cli.proofs.Names.{ne_eqb, Option, None, Some, IfSome, IfOk, Ok, Err, Result, ShelfRefusal, Gains, GainsPrefix, Rose, Holding, Loads, content_of, Gains-front, Gains-none, fault_code, FileCommand, Status, FileEnd, FileShown, IsTextOf, IsTextPut, OctetsShown, checks_headers, code_status, end_of, fault_status, is_file_status, most_octets, status_of_load}
 use Rattle.pacsat_cli.proofs.Loading.{loaded, long, none}
 
 -- a fault's code is never 0

@@ -23,3 +23,4 @@ mod RunServe
 mod RunSession
 mod Starting
 mod Unasked
+mod Names

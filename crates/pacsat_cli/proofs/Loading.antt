@@ -1,9 +1,8 @@
 -- What a load of the shelf says of the content of a name.
 use Rattle.std.proofs.Common.{◌≡◌, ℕ, ◌<◌, List, length, refl, ap, inl, inr, Bool, true, false}
-use Rattle.std.proofs.lemmas.Bool.Decides.{leb_tells}
-use Rattle.std.specs.Prelude.{Option, None, Some, Ok, Err, nat_le, if◌then◌else◌}
+use Rattle.std.specs.Prelude.{if◌then◌else◌}
 use Rattle.px_base.specs.declared.shelf.ShelfRefusal.TheVariants as refusal
-use Rattle.px_base.specs.Shelves.{AnswersOf}
+use Rattle.pacsat_cli.proofs.Names.{leb_tells, Option, None, Some, Ok, Err, nat_le, AnswersOf}
 
 -- what was loaded is the content
 loaded-some : (b : Bool) (content octets : List ℕ) → Ok octets ≡ (if b then Ok content else Err refusal.TooLong) → content ≡ octets

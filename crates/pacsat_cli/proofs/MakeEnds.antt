@@ -1,24 +1,14 @@
 -- A make of the octets that were loaded is one of the content of BODY, and their body is the one of the content of NAME.
 use Rattle.std.proofs.Common.{◌≡◌, ℕ, ◌+◌, ◌<◌, ◌≤◌, List, length, refl, ap, sym, subst, ◌∙◌, inl, inr, arith, Bool, true, false}
-use Rattle.std.specs.Prelude.{Option, None, Some, IfSome, IsOkUnless, MatchOption, Ok, Err, nat_lt, if◌then◌else◌}
+use Rattle.std.specs.Prelude.{if◌then◌else◌}
 use Rattle.std.specs.Option.{option_map}
-use Rattle.std.proofs.lemmas.Bool.Decides.{leb_tells}
-use Rattle.px_base.specs.Shelves.{Holding, Loads, content_of}
-use Rattle.px_base.specs.declared.shelf.ShelfRefusal.{ShelfRefusal}
 use Rattle.px_base.specs.declared.shelf.ShelfRefusal.TheVariants as refusal
 use Rattle.header_tool.specs.Bodies.{HasBody}
-use Rattle.header_tool.specs.Faults.{fault_code}
 use Rattle.header_tool.specs.Built.{passing_len}
-use Rattle.header_tool.specs.Made.{IsMade, IsRefused, MakeValue, made_builder, make_refusal, or_long}
 use Rattle.header_tool.specs.declared.refusal.MakeRefusal.{MakeRefusal}
 use Rattle.header_tool.specs.declared.refusal.MakeRefusal.TheVariants as make
 use Rattle.pacsat_cli.specs.declared.status.RefusedBy.TheVariants as by
-use Rattle.pacsat_cli.specs.declared.status.Status.{Status}
-use Rattle.pacsat_cli.specs.declared.status.Status.TheVariants.{Done, Refused, Shelf, TooLong}
-use Rattle.pacsat_cli.specs.Bodies.{BodyEnd, BodyRan, IsBodyOf, OctetsBody, body_fault, body_status}
-use Rattle.pacsat_cli.specs.Files.{most_octets}
-use Rattle.pacsat_cli.specs.Making.{FileKept, IsMadeOf, IsOrHindered, IsPossible, MakeEnd, MakeRan, OctetsMade, length_status, make_status}
-use Rattle.pacsat_cli.specs.Stops.{status_of_load}
+use Rattle.pacsat_cli.proofs.Names.{Option, None, Some, IfSome, IsOkUnless, MatchOption, Ok, Err, nat_lt, leb_tells, Holding, Loads, content_of, ShelfRefusal, fault_code, IsMade, IsRefused, MakeValue, made_builder, make_refusal, or_long, Status, Done, Refused, Shelf, TooLong, BodyEnd, BodyRan, IsBodyOf, OctetsBody, body_fault, body_status, most_octets, FileKept, IsMadeOf, IsOrHindered, IsPossible, MakeEnd, MakeRan, OctetsMade, length_status, make_status, status_of_load}
 use Rattle.pacsat_cli.proofs.Loading.{loaded, long, none}
 
 -- what holds of the octets that were loaded holds of the content

@@ -1,30 +1,17 @@
 -- A session over a fresh disk in memory.
 use Rattle.std.proofs.Common.{◌≡◌, ℕ, List, [], refl, ap, sym, subst, ◌∙◌, inl, inr}
-use Rattle.std.specs.Prelude.{Option, Some, IfSome, Result, Err, ⊤}
 use Rattle.px_base.specs.declared.air.Air.{Ghosts as AirGhosts}
-use Rattle.disk_model.specs.Calls.{new_state}
 use Rattle.disk_model.specs.Disk.{IsTold}
 use Rattle.disk_model.specs.Memory.{read_faults, state as disk_state}
-use Rattle.disk_model.specs.declared.disk.Disk.{Ghosts}
 use Rattle.disk_model.specs.declared.memory_disk.MemoryDisk.{MemoryDisk}
 use Rattle.file_store.specs.Journal.{journal_of}
 use Rattle.file_store.specs.Walk.{state}
 use Rattle.file_store.specs.Store.{Store, empty_store}
-use Rattle.file_store.specs.State.{IsKnown, standing_of}
-use Rattle.file_store.specs.Working.{CountsSome}
-use Rattle.file_store.specs.StoreFault.{StoreFault}
 use Rattle.file_store.specs.StoreFault.TheVariants as fault
-use Rattle.node.specs.Lent.{lent, seen}
-use Rattle.server_node.specs.Served.{Run}
 use Rattle.server_node.specs.Sessions.SessionRan.{SessionEnds, SessionRan}
-use Rattle.node.specs.Stops.{stop_of_fault}
-use Rattle.server_node.specs.Stops.{HasAirCause, EndsExactly, RefusesSession}
-use Rattle.node.specs.declared.stop.NodeStop.{NodeStop}
 use Rattle.node.specs.declared.stop.NodeStop.TheVariants as stop
-use Rattle.server_node.specs.declared.terms.Served.{Served}
 use Rattle.server_node.specs.declared.terms.SessionTerms.{SessionTerms}
-use Rattle.pacsat_cli.specs.Sessions.{OverMemory}
-use Rattle.pacsat_cli.specs.Stops.{status_in_memory, status_of}
+use Rattle.pacsat_cli.proofs.Names.{Option, Some, IfSome, Result, Err, ⊤, new_state, Ghosts, IsKnown, standing_of, CountsSome, StoreFault, lent, seen, Run, stop_of_fault, HasAirCause, EndsExactly, RefusesSession, NodeStop, Served, OverMemory, status_in_memory, status_of}
 
 -- a disk without octets stands for the empty store
 fresh-stands : (blocks : ℕ) → standing_of blocks [] ≡ state (empty_store blocks)

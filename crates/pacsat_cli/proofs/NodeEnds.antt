@@ -1,32 +1,14 @@
 -- What a session and a service have in common: how they end, what they count, and what their disk has to do with it.
 use Rattle.std.proofs.Common.{◌≡◌, ℕ, ◌≤◌, List, [], ◌++◌, length, arith, refl, ap, sym, subst, ◌∙◌, inl, inr, Bool, true, false, append-nil}
-use Rattle.std.proofs.lemmas.Bool.{or_parts}
 use Rattle.std.proofs.lemmas.List.{append_cancel_left}
-use Rattle.std.specs.Prelude.{◌||◌, ◌⊎◌, Option, Some, None, IfSome, Result, Ok, Err, IsErrOf}
-use Rattle.px_base.specs.Polling.{HasEnd, HearsAll}
+use Rattle.std.specs.Prelude.{◌||◌, ◌⊎◌}
 use Rattle.px_base.specs.declared.air.Air.{Ghosts as AirGhosts}
-use Rattle.px_base.specs.declared.air.Turn.{Turn}
-use Rattle.disk_model.specs.declared.disk.Disk.{Ghosts}
-use Rattle.file_store.specs.State.{standing_of}
-use Rattle.file_store.specs.Working.{PutsAmongReads}
-use Rattle.file_store.specs.StoreFault.{StoreFault}
 use Rattle.file_store.specs.StoreFault.TheVariants as fault
 use Rattle.server_node.specs.OnDisk.{NodeRuns}
 use Rattle.server_node.specs.Served.{TurnsBy}
-use Rattle.node.specs.Stops.{stop_of_fault}
-use Rattle.server_node.specs.Stops.{CountsBy, EndsExactly, RefusesSession}
-use Rattle.node.specs.declared.stop.NodeStop.{NodeStop}
 use Rattle.node.specs.declared.stop.NodeStop.TheVariants as stop
-use Rattle.server_node.specs.declared.terms.Served.{Served}
-use Rattle.command_words.specs.declared.disk.DiskWord.{DiskWord}
-use Rattle.command_words.specs.declared.disk.DiskWord.TheVariants.{Fresh, Named}
-use Rattle.command_words.specs.Words.{AsksClient}
-use Rattle.pacsat_cli.specs.declared.status.Status.{Status}
 use Rattle.pacsat_cli.specs.declared.status.Status.TheVariants as status
-use Rattle.pacsat_cli.specs.Run.{HasStatusCause}
-use Rattle.pacsat_cli.specs.Sessions.{AsksFresh, AsksStore, HasDiskCause, HasReadCause, HasWriteCause, IsDoneAtEnd, IsSpentBy, RefusesExactly}
-use Rattle.pacsat_cli.specs.Stops.{status_of}
-use Rattle.uploader.proofs.LedLemmas.{told-same}
+use Rattle.pacsat_cli.proofs.Names.{or_parts, Option, Some, None, IfSome, Result, Ok, Err, IsErrOf, HasEnd, HearsAll, Turn, Ghosts, standing_of, PutsAmongReads, StoreFault, stop_of_fault, CountsBy, EndsExactly, RefusesSession, NodeStop, Served, DiskWord, Fresh, Named, AsksClient, Status, HasStatusCause, AsksFresh, AsksStore, HasDiskCause, HasReadCause, HasWriteCause, IsDoneAtEnd, IsSpentBy, RefusesExactly, status_of, told-same}
 use Rattle.pacsat_cli.proofs.Ended.{damaged-end, disk-end, done_by, heard_by, is_heard_status, mended, not_a_store-end, read_cause, reads_end, spent_by, write_cause}
 
 -- whether a session or a service over this disk can end so before anything is heard or said

@@ -1,12 +1,7 @@
 -- Words ask for one thing to do.
 use Rattle.std.proofs.Common.{◌≡◌, ℕ, List, refl, inl, inr}
-use Rattle.command_words.specs.Asked.{AsksText}
-use Rattle.command_words.specs.Laws.{AsksServe, AsksSession, Determined, OnlyOne}
-use Rattle.command_words.specs.Words.{AsksClient, AsksMake, AsksRehearse, IsUsage}
-use Rattle.command_words.specs.declared.command.FileCommand.{FileCommand}
 use Rattle.command_words.specs.declared.command.FileCommand.TheVariants.{Frames, Show, Check}
-use Rattle.pacsat_cli.specs.Sessions.{AsksNode, AsksStore}
-use Rattle.pacsat_cli.specs.Tasks.{AsksFile}
+use Rattle.pacsat_cli.proofs.Names.{AsksText, AsksServe, AsksSession, Determined, OnlyOne, AsksClient, AsksMake, AsksRehearse, IsUsage, FileCommand, AsksNode, AsksStore, AsksFile}
 
 module _ (words : List (List ℕ)) (only : OnlyOne words) where
   -- words that ask for the text of a file are in the command set, and ask for no session and no service

@@ -1,9 +1,7 @@
 -- What the turns of a session or a service say of its end.
 use Rattle.std.proofs.Common.{List, [], ◌∷◌, ◌++◌, subst}
-use Rattle.std.specs.List.{AllByRecursion}
-use Rattle.px_base.specs.Polling.{EndsWith, HasEnd, IsOpen}
-use Rattle.px_base.specs.declared.air.Turn.{Turn}
 use Rattle.px_base.specs.declared.air.Turn.TheVariants as turn
+use Rattle.pacsat_cli.proofs.Names.{AllByRecursion, EndsWith, HasEnd, IsOpen, Turn}
 
 -- open turns have no end
 pub open-no_end : (turns : List Turn) → AllByRecursion IsOpen turns → HasEnd turns → ⊥

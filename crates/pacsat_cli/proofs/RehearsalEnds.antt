@@ -1,23 +1,11 @@
 -- How a rehearsal ends, step by step: by its report, by the text of its schedule, and by the content of the name.
 use Rattle.std.proofs.Common.{◌≡◌, ◌⊎◌, ℕ, ◌<◌, ◌≤◌, List, [], ◌∷◌, length, refl, ap, sym, subst, ◌∙◌, inl, inr, arith, false}
-use Rattle.std.specs.Prelude.{Contains, Option, None, Some, Err}
-use Rattle.px_base.specs.Outside.{Gains, GainsPrefix, Rose}
-use Rattle.px_base.specs.Shelves.{Holding, Loads, content_of}
 use Rattle.px_base.specs.declared.out.Out.{Ghosts as OutGhosts}
-use Rattle.px_base.specs.declared.shelf.ShelfRefusal.{ShelfRefusal}
 use Rattle.px_base.specs.declared.shelf.ShelfRefusal.TheVariants as refusal
-use Rattle.px_base.proofs.Told.{Gains-front, Gains-none}
-use Rattle.disk_model.specs.Cuts.{Cuts}
-use Rattle.disk_model.specs.declared.disk.Disk.{Ghosts}
 use Rattle.air_schedule.specs.Schedule.{Schedule}
-use Rattle.air_schedule.specs.Text.{FirstBadLine, OneSchedule, ScheduleText}
-use Rattle.air_rehearsal.specs.Rehearsed.{IsUnlawful}
 use Rattle.air_rehearsal.specs.declared.report.Report.{Report}
-use Rattle.pacsat_cli.specs.declared.status.Status.{Status}
-use Rattle.pacsat_cli.specs.declared.status.Status.TheVariants.{Done, NoSuch, OutOfMemory, Out, Shelf, BadSchedule, TooLong}
-use Rattle.pacsat_cli.specs.Rehearsing.{ContentEnd, EndsExactly, IsUnlawfulAt, PlaysText, RehearsalEnd, ReportShown, ShowsReport, TextEnd, most_text, report_line, says_report}
-use Rattle.pacsat_cli.specs.Run.{IsUnless}
-use Rattle.pacsat_cli.specs.Stops.{status_of_load}
+use Rattle.pacsat_cli.specs.Rehearsing.{EndsExactly}
+use Rattle.pacsat_cli.proofs.Names.{Contains, Option, None, Some, Err, Gains, GainsPrefix, Rose, Holding, Loads, content_of, ShelfRefusal, Gains-front, Gains-none, Cuts, Ghosts, FirstBadLine, OneSchedule, ScheduleText, IsUnlawful, Status, Done, NoSuch, OutOfMemory, Out, Shelf, BadSchedule, TooLong, ContentEnd, IsUnlawfulAt, PlaysText, RehearsalEnd, ReportShown, ShowsReport, TextEnd, most_text, report_line, says_report, IsUnless, status_of_load}
 use Rattle.pacsat_cli.proofs.Loading.{long, none}
 
 module _ {O : Type 0} (o : OutGhosts O) (before : O) where

@@ -1,25 +1,13 @@
 -- What a run did, where the words ask for a client's command.
 use Rattle.std.proofs.Common.{◌≡◌, ℕ, ◌≤◌, List, [], arith, ap, sym, subst, ◌∙◌, inl, inr, false}
 use Rattle.std.specs.Prelude.{◌⊎◌}
-use Rattle.px_base.specs.Outside.{Rose}
 use Rattle.px_base.specs.declared.out.Out.{Ghosts as OutGhosts}
 use Rattle.px_base.specs.declared.shelf.Shelf.{Ghosts as ShelfGhosts}
-use Rattle.node.specs.Lent.{Lent, Seen}
-use Rattle.uploader.specs.Fetching.{file_asked}
-use Rattle.uploader.specs.Listing.{files_asked}
 use Rattle.command_words.specs.declared.client.ClientRequest.{ClientRequest}
 use Rattle.command_words.specs.declared.client.ClientRequest.TheVariants as client
 use Rattle.command_words.specs.declared.terms.ClientTerms.{ClientTerms as AskedTerms}
-use Rattle.command_words.specs.Asked.{AsksClientFor}
-use Rattle.command_words.specs.Laws.{Determined, OnlyOne}
-use Rattle.command_words.specs.Words.{AsksClient, AsksList, IsFetch, IsList, IsSend}
-use Rattle.pacsat_cli.specs.declared.status.Status.{Status}
 use Rattle.pacsat_cli.specs.declared.status.Status.TheVariants as status
-use Rattle.pacsat_cli.specs.Clients.{ClientRan, FetchRan, IsUnlisted, ListRan, MayRun, RunsFetch, RunsList, RunsSend, SendRan, client_terms, outside}
-use Rattle.pacsat_cli.specs.Run.{Shows, Stays}
-use Rattle.pacsat_cli.specs.Sessions.{HasStoreCause}
-use Rattle.pacsat_cli.specs.Status.{line_of}
-use Rattle.pacsat_cli.specs.Tasks.{AsksKept}
+use Rattle.pacsat_cli.proofs.Names.{Rose, Lent, Seen, file_asked, files_asked, AsksClientFor, Determined, OnlyOne, AsksClient, AsksList, IsFetch, IsList, IsSend, Status, ClientRan, FetchRan, IsUnlisted, ListRan, MayRun, RunsFetch, RunsList, RunsSend, SendRan, client_terms, outside, Shows, Stays, HasStoreCause, line_of, AsksKept}
 use Rattle.pacsat_cli.proofs.ClientEnds.{ClientDid, fetch-did, list-did, send-did, unread-did}
 use Rattle.pacsat_cli.proofs.ClientStops.{is_client_status}
 

@@ -1,17 +1,8 @@
 -- What a run did, where the words ask for the text of a file.
 use Rattle.std.proofs.Common.{◌≡◌, ℕ, ◌≤◌, List, [], ap, sym, subst, ◌∙◌, arith, Bool, true, false}
-use Rattle.std.specs.Prelude.{Option, IfSome}
-use Rattle.px_base.specs.Outside.{Rose}
-use Rattle.px_base.specs.Shelves.{Holding, content_of}
-use Rattle.command_words.specs.declared.command.FileCommand.{FileCommand}
 use Rattle.pacsat_cli.specs.declared.status.RefusedBy.TheVariants as by
-use Rattle.pacsat_cli.specs.declared.status.Status.{Status}
 use Rattle.pacsat_cli.specs.declared.status.Status.TheVariants as status
-use Rattle.pacsat_cli.specs.Files.{FileEnd, FileShown, IsNoSuchBy, IsShownBy, IsTooLongBy, is_file_status}
-use Rattle.pacsat_cli.specs.Run.{Shows}
-use Rattle.pacsat_cli.specs.Status.{line_of}
-use Rattle.command_words.specs.Asked.{AsksText}
-use Rattle.pacsat_cli.specs.Tasks.{RunsFile, WhereHeld}
+use Rattle.pacsat_cli.proofs.Names.{Option, IfSome, Rose, Holding, content_of, FileCommand, Status, FileEnd, FileShown, IsNoSuchBy, IsShownBy, IsTooLongBy, is_file_status, Shows, line_of, AsksText, RunsFile, WhereHeld}
 use Rattle.pacsat_cli.proofs.FileEnds.{no_such-end, shown-end, too_long-end}
 
 -- whether no text of a file ends with this status

@@ -1,19 +1,10 @@
 -- What a run did, where the words ask for a file that is made.
 use Rattle.std.proofs.Common.{◌≡◌, ℕ, List, refl, ap, subst, inl, inr, Bool, true, false}
-use Rattle.std.specs.Prelude.{Option}
-use Rattle.px_base.specs.Shelves.{Holding}
-use Rattle.command_words.specs.Laws.{Determined, OnlyOne}
-use Rattle.command_words.specs.Words.{AsksMake}
-use Rattle.header_tool.specs.Made.{MakeValue, make_value}
 use Rattle.command_words.specs.declared.make.MakingRequest.{MakingRequest}
 use Rattle.command_words.specs.declared.make.MakingRequest.TheVariants.{Make, Body}
 use Rattle.pacsat_cli.specs.declared.status.RefusedBy.TheVariants as by
-use Rattle.pacsat_cli.specs.declared.status.Status.{Status}
 use Rattle.pacsat_cli.specs.declared.status.Status.TheVariants as status
-use Rattle.pacsat_cli.specs.Bodies.{BodyEnd, BodyRan}
-use Rattle.pacsat_cli.specs.Making.{MakeEnd, MakeRan}
-use Rattle.command_words.specs.Asked.{AsksMakingFor}
-use Rattle.pacsat_cli.specs.Tasks.{MakingRan, MayMake, RunsBody, RunsMake}
+use Rattle.pacsat_cli.proofs.Names.{Option, Holding, Determined, OnlyOne, AsksMake, MakeValue, make_value, Status, BodyEnd, BodyRan, MakeEnd, MakeRan, AsksMakingFor, MakingRan, MayMake, RunsBody, RunsMake}
 
 -- whether a make can end with this status
 abbrev pub is_make_status : Status → Bool

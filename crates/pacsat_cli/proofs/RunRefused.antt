@@ -1,37 +1,12 @@
 -- What a run did, where the words were refused.
 use Rattle.std.proofs.Common.{◌≡◌, ℕ, List, [], ◌∷◌, refl, ap, sym, subst, inl, inr, arith, Bool, true, false, Err}
-use Rattle.std.specs.Prelude.{Option, None, Some, IfSome, Result}
-use Rattle.px_base.specs.Shelves.{Holding, content_of}
 use Rattle.px_base.specs.declared.air.Air.{Ghosts as AirGhosts}
 use Rattle.px_base.specs.declared.out.Out.{Ghosts as OutGhosts}
 use Rattle.px_base.specs.declared.shelf.Shelf.{Ghosts as ShelfGhosts}
-use Rattle.disk_model.specs.declared.disk.Disk.{Ghosts}
-use Rattle.node.specs.Lent.{Lent, Seen}
-use Rattle.command_words.specs.declared.disk.DiskWord.{DiskWord}
-use Rattle.command_words.specs.declared.disk.DiskWord.TheVariants.{Named}
-use Rattle.command_words.specs.declared.request.SessionRequest.{SessionRequest}
-use Rattle.command_words.specs.declared.serve.ServeRequest.{ServeRequest}
-use Rattle.px_base.proofs.Told.{Gains-none}
-use Rattle.command_words.specs.Asked.{AsksText}
-use Rattle.command_words.specs.Laws.{OnlyOne}
-use Rattle.command_words.specs.Words.{AsksClient, AsksMake, AsksRehearse, IsServe, IsSession, IsUsage, NamesCommand}
 use Rattle.command_words.specs.declared.request.Refusal.{Refusal}
 use Rattle.command_words.specs.declared.request.Refusal.TheVariants as refusal
-use Rattle.header_tool.specs.Made.{MakeValue}
-use Rattle.node.specs.Lent.{lent, seen}
-use Rattle.pacsat_cli.specs.declared.status.Status.{Status}
 use Rattle.pacsat_cli.specs.declared.status.Status.TheVariants as status
-use Rattle.command_words.specs.declared.command.FileCommand.{FileCommand}
-use Rattle.pacsat_cli.specs.Bodies.{BodyRan, body_status}
-use Rattle.pacsat_cli.specs.Clients.{RunsFetch, RunsList, RunsSend, outside}
-use Rattle.pacsat_cli.specs.Files.{FileEnd, FileShown, IsNoSuchBy, IsShownBy, IsTooLongBy}
-use Rattle.pacsat_cli.specs.Making.{IsOrHindered, MakeRan, make_status}
-use Rattle.pacsat_cli.specs.Run.{IsUnless, Shows}
-use Rattle.pacsat_cli.specs.Servers.{RunsServe, WhereServed}
-use Rattle.pacsat_cli.specs.Sessions.{HasDiskCause, HasStoreCause, IsDoneBy, IsSpentBy, RunsSession, WhereHeard}
-use Rattle.pacsat_cli.specs.Status.{line_of}
-use Rattle.pacsat_cli.specs.Stops.{status_of_refusal}
-use Rattle.pacsat_cli.specs.Tasks.{RunsBody, RunsFile, RunsMake, WhereHeld}
+use Rattle.pacsat_cli.proofs.Names.{Option, None, Some, IfSome, Result, Holding, content_of, Ghosts, Lent, Seen, DiskWord, Named, SessionRequest, ServeRequest, Gains-none, AsksText, OnlyOne, AsksClient, AsksMake, AsksRehearse, IsServe, IsSession, IsUsage, NamesCommand, MakeValue, lent, seen, Status, FileCommand, BodyRan, body_status, RunsFetch, RunsList, RunsSend, outside, FileEnd, FileShown, IsNoSuchBy, IsShownBy, IsTooLongBy, IsOrHindered, MakeRan, make_status, IsUnless, Shows, RunsServe, WhereServed, HasDiskCause, HasStoreCause, IsDoneBy, IsSpentBy, RunsSession, WhereHeard, line_of, status_of_refusal, RunsBody, RunsFile, RunsMake, WhereHeld}
 use Rattle.pacsat_cli.proofs.NodeEnds.{Goes, is_early_status, node-complete, node-spent}
 use Rattle.pacsat_cli.proofs.OneTask.{usage-file, usage-make}
 use Rattle.pacsat_cli.proofs.RunSession.{some_polls}

@@ -1,22 +1,10 @@
 -- What a run did, where the words ask for a rehearsal, and where they don't.
 use Rattle.std.proofs.Common.{◌≡◌, ℕ, ◌≤◌, List, [], refl, ap, sym, subst, ◌∙◌, inl, inr, arith, Bool, true, false}
-use Rattle.std.specs.Prelude.{Option}
-use Rattle.px_base.specs.Outside.{Rose}
-use Rattle.px_base.specs.Shelves.{Holding}
 use Rattle.px_base.specs.declared.out.Out.{Ghosts as OutGhosts}
-use Rattle.disk_model.specs.Cuts.{Cuts}
-use Rattle.disk_model.specs.declared.disk.Disk.{Ghosts}
-use Rattle.air_schedule.specs.Text.{OneSchedule}
-use Rattle.command_words.specs.Asked.{AsksRehearseFor}
-use Rattle.command_words.specs.Laws.{Determined, OnlyOne}
-use Rattle.command_words.specs.Words.{AsksRehearse}
 use Rattle.command_words.specs.declared.rehearse.RehearseRequest.{RehearseRequest}
 use Rattle.command_words.specs.declared.rehearse.RehearseRequest.TheVariants.{Drawn, Schedule}
-use Rattle.pacsat_cli.specs.declared.status.Status.{Status}
 use Rattle.pacsat_cli.specs.declared.status.Status.TheVariants as status
-use Rattle.pacsat_cli.specs.Rehearsing.{DrawnEnd, PlayEnd, RehearsalEnd, Rehearses, ReportShown, RunsExactly, RunsNamed, SeenSetting, Setting}
-use Rattle.pacsat_cli.specs.Run.{Shows}
-use Rattle.pacsat_cli.specs.Status.{line_of}
+use Rattle.pacsat_cli.proofs.Names.{Option, Rose, Holding, Cuts, Ghosts, OneSchedule, AsksRehearseFor, Determined, OnlyOne, AsksRehearse, Status, DrawnEnd, PlayEnd, RehearsalEnd, Rehearses, ReportShown, RunsExactly, RunsNamed, SeenSetting, Setting, Shows, line_of}
 use Rattle.pacsat_cli.proofs.RehearsalEnds.{exactly, none-put}
 
 -- the words of a request ask for a rehearsal

@@ -1,18 +1,8 @@
 -- What a run did, where the words ask for a service.
 use Rattle.std.proofs.Common.{◌≡◌, ℕ, List, ap, sym, subst, ◌∙◌, inl, inr, true, false}
-use Rattle.std.specs.Prelude.{Option, IfSome}
 use Rattle.px_base.specs.declared.air.Air.{Ghosts as AirGhosts}
-use Rattle.disk_model.specs.declared.disk.Disk.{Ghosts}
-use Rattle.file_store.specs.State.{standing_of}
-use Rattle.node.specs.Lent.{lent, seen}
-use Rattle.command_words.specs.declared.disk.DiskWord.TheVariants.{Fresh, Named}
-use Rattle.command_words.specs.declared.serve.ServeRequest.{ServeRequest}
-use Rattle.command_words.specs.Laws.{Determined, OnlyOne}
-use Rattle.command_words.specs.Words.{IsServe}
-use Rattle.pacsat_cli.specs.declared.status.Status.{Status}
 use Rattle.pacsat_cli.specs.declared.status.Status.TheVariants as status
-use Rattle.pacsat_cli.specs.Servers.{IsServedOver, RunsServe, WhereServed, serve_terms}
-use Rattle.pacsat_cli.specs.Sessions.{AsksFresh, AsksStore, HasDiskCause, HasReadCause, HasStoreCause, HasWriteCause, IsDoneAtEnd, IsDoneBy, IsSpentBy, RefusesExactly}
+use Rattle.pacsat_cli.proofs.Names.{Option, IfSome, Ghosts, standing_of, lent, seen, Fresh, Named, ServeRequest, Determined, OnlyOne, IsServe, Status, IsServedOver, RunsServe, WhereServed, serve_terms, AsksFresh, AsksStore, HasDiskCause, HasReadCause, HasStoreCause, HasWriteCause, IsDoneAtEnd, IsDoneBy, IsSpentBy, RefusesExactly}
 use Rattle.pacsat_cli.proofs.Ended.{heard-not_memory, mended-disk}
 use Rattle.pacsat_cli.proofs.NodeEnds.{Goes, OnDisk, is_node_status, node-complete, node-done, node-not, node-read, node-spent, node-write, on_disk-cause, on_disk-exact, on_disk-goes}
 

@@ -1,19 +1,9 @@
 -- What a run did, where the words ask for a session.
 use Rattle.std.proofs.Common.{◌≡◌, ℕ, ◌≤◌, List, refl, ap, sym, subst, ◌∙◌, inl, inr, false, arith}
-use Rattle.std.specs.Prelude.{Option, Some, None, IsSome, IfSome}
 use Rattle.px_base.specs.declared.air.Air.{Ghosts as AirGhosts}
-use Rattle.disk_model.specs.declared.disk.Disk.{Ghosts}
-use Rattle.file_store.specs.State.{standing_of}
-use Rattle.node.specs.Lent.{lent, seen}
-use Rattle.command_words.specs.declared.disk.DiskWord.{DiskWord}
-use Rattle.command_words.specs.declared.disk.DiskWord.TheVariants.{Fresh, Named}
-use Rattle.command_words.specs.declared.request.SessionRequest.{SessionRequest}
-use Rattle.command_words.specs.Laws.{Determined, OnlyOne}
 use Rattle.command_words.specs.Numbers.{IsNumberOr}
-use Rattle.command_words.specs.Words.{IsSession}
-use Rattle.pacsat_cli.specs.declared.status.Status.{Status}
 use Rattle.pacsat_cli.specs.declared.status.Status.TheVariants as status
-use Rattle.pacsat_cli.specs.Sessions.{AsksDisk, AsksFresh, AsksMoment, AsksStore, HasDiskCause, HasReadCause, HasStoreCause, HasWriteCause, IsDoneAtEnd, IsDoneBy, IsSpentBy, OverNamed, RefusesExactly, RunsSession, WhereHeard, run_terms}
+use Rattle.pacsat_cli.proofs.Names.{Option, Some, None, IsSome, IfSome, Ghosts, standing_of, lent, seen, DiskWord, Fresh, Named, SessionRequest, Determined, OnlyOne, IsSession, Status, AsksDisk, AsksFresh, AsksMoment, AsksStore, HasDiskCause, HasReadCause, HasStoreCause, HasWriteCause, IsDoneAtEnd, IsDoneBy, IsSpentBy, OverNamed, RefusesExactly, RunsSession, WhereHeard, run_terms}
 use Rattle.pacsat_cli.proofs.Ended.{heard-not_memory, mended-disk, mended-memory}
 use Rattle.pacsat_cli.proofs.NodeEnds.{Goes, OnDisk, is_early_status, is_node_status, node-complete, node-done, node-not, node-read, node-spent, node-write, on_disk-cause, on_disk-exact, on_disk-goes}
 

@@ -1,17 +1,13 @@
 -- What a start asks its system for, step by step.
 use Rattle.std.proofs.Common.{◌≡◌, ℕ, List, [], ◌∷◌, true, false, Option, Result, Ok, Err, refl, sym}
-use Rattle.std.proofs.lemmas.Bool.{false≢true}
-use Rattle.std.specs.Prelude.{is_err}
 use Rattle.px_base.specs.CallRecords.{Asks}
-use Rattle.px_base.proofs.Told.{Grows-trans}
 use Rattle.pacsat_cli.specs.declared.startup.host.HostCall.{HostCall}
 use Rattle.pacsat_cli.specs.declared.startup.host.HostCall.TheVariants as call
 use Rattle.pacsat_cli.specs.declared.startup.host.NotHeld.{NotHeld}
 use Rattle.pacsat_cli.specs.declared.startup.host.WordsRefusal.{WordsRefusal}
-use Rattle.pacsat_cli.specs.declared.status.Status.{Status}
 use Rattle.pacsat_cli.specs.declared.status.Status.TheVariants as status
 use Rattle.pacsat_cli.specs.Start.{Follows, IsRunOf, Starts, status_of_words}
-use Rattle.pacsat_cli.specs.Status.{number_of}
+use Rattle.pacsat_cli.proofs.Names.{false≢true, is_err, Grows-trans, Status, number_of}
 
 module _ (was held now : Option (List HostCall)) (answer : Result Unit NotHeld) (number : ℕ) where
   -- the standard streams could not be held

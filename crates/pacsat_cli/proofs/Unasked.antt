@@ -2,17 +2,7 @@
 use Rattle.std.proofs.Common.{ℕ, List, inl, inr}
 use Rattle.px_base.specs.declared.out.Out.{Ghosts as OutGhosts}
 use Rattle.px_base.specs.declared.shelf.Shelf.{Ghosts as ShelfGhosts}
-use Rattle.node.specs.Lent.{Lent, Seen}
-use Rattle.command_words.specs.Laws.{AsksServe, AsksSession}
-use Rattle.command_words.specs.Words.{AsksClient, AsksMake}
-use Rattle.pacsat_cli.specs.Acknowledged.{ServiceStands, SessionStands}
-use Rattle.pacsat_cli.specs.Clients.{Outside, RunsFetch, RunsList, RunsSend}
-use Rattle.pacsat_cli.specs.Exactly.{FetchEndsExactly, ListEndsExactly, SendEndsExactly, SendRefuses, SendStarts}
-use Rattle.pacsat_cli.specs.Files.{IsNoSuchBy, IsShownBy, IsTooLongBy}
-use Rattle.pacsat_cli.specs.Servers.{RunsServe, WhereServed}
-use Rattle.pacsat_cli.specs.Sessions.{IsDoneBy, IsSpentBy, RunsSession, WhereHeard}
-use Rattle.pacsat_cli.specs.Tasks.{AsksFile, RunsBody, RunsFile, RunsMake, WhereHeld}
-use Rattle.pacsat_cli.specs.declared.status.Status.{Status}
+use Rattle.pacsat_cli.proofs.Names.{Lent, Seen, AsksServe, AsksSession, AsksClient, AsksMake, ServiceStands, SessionStands, Outside, RunsFetch, RunsList, RunsSend, FetchEndsExactly, ListEndsExactly, SendEndsExactly, SendRefuses, SendStarts, IsNoSuchBy, IsShownBy, IsTooLongBy, RunsServe, WhereServed, IsDoneBy, IsSpentBy, RunsSession, WhereHeard, AsksFile, RunsBody, RunsFile, RunsMake, WhereHeld, Status}
 
 module _ {A C D : Type 0} (words : List (List ℕ)) (see : Seen D A C) (old new : Lent D A C) (s : Status) where
   pub record NoSession : Type 0 where

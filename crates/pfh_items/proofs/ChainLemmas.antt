@@ -1,9 +1,7 @@
 -- A chain of an iterator's methods that begins with items.
 use Rattle.std.proofs.Common.{length, ap}
-use Rattle.std.proofs.lemmas.Iterator.{YieldsList}
 use Rattle.std.proofs.lemmas.Iterator.Consumers.{YieldsList-from_shown}
-use Rattle.pfh_items.specs.Values.{GivesItem, item_value, items_left}
-use Rattle.pfh_items.specs.Walk.{ItemList}
+use Rattle.pfh_items.proofs.Names.{YieldsList, GivesItem, item_value, items_left, ItemList}
 
 -- it gives those that are left
 pub YieldsList-items : (walk : ItemList) → YieldsList GivesItem item_value walk walk.items

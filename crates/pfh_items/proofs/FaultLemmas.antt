@@ -1,16 +1,9 @@
 -- The first fault of a file: what is computed is the one that the rules say.
 use Rattle.std.proofs.Common.{◌≡◌, ◌≢◌, ℕ, ◌==◌, List, [], ◌∷◌, Bool, true, false, not, cond, Option, Some, None, refl, sym, ap, ◌∙◌, subst, MatchOption}
 use Rattle.std.specs.List.{AllByRecursion, list_all}
-use Rattle.std.proofs.lemmas.Bool.{eqb-true, eq-eqb, and_parts, and_from, false≢true, both_ways, false_from_ne_true}
-use Rattle.px_base.specs.Numbers.{le16, sum16}
-use Rattle.px_base.specs.Octets.{IsOctets}
 use Rattle.pfh_items.specs.declared.fault.FileFault.{FileFault}
 use Rattle.pfh_items.specs.declared.fault.FileFault.TheVariants.{NoHeader, NoEndItem, MissingItem, BadHeader, HeaderSum, BodySum}
-use Rattle.pfh_items.specs.declared.table.MandatoryItem.{MandatoryItem}
-use Rattle.pfh_items.specs.Faults.{items_with, content_of, header_sum, Stands, StandsOnce, HasMandatory, FitsFile, FirstFault, IsFaultless, IsFound, begins_header, file_parts, has_none, is_one_of_len, has_mandatory, fits_file, fault_of, fault_of_parts, first_fault}
-use Rattle.pfh_items.specs.Laws.{IsOneFault, HasNoFault}
-use Rattle.pfh_items.specs.Layout.{ItemValue, HeaderValue, FileText}
-use Rattle.pfh_items.specs.Table.{mandatory_items}
+use Rattle.pfh_items.proofs.Names.{eqb-true, eq-eqb, and_parts, and_from, false≢true, both_ways, false_from_ne_true, le16, sum16, IsOctets, MandatoryItem, items_with, content_of, header_sum, Stands, StandsOnce, HasMandatory, FitsFile, FirstFault, IsFaultless, IsFound, begins_header, file_parts, has_none, is_one_of_len, has_mandatory, fits_file, fault_of, fault_of_parts, first_fault, IsOneFault, HasNoFault, ItemValue, HeaderValue, FileText, mandatory_items}
 use Rattle.pfh_items.proofs.TextLemmas.{item_at}
 use Rattle.pfh_items.proofs.HeaderLemmas.{file_parts-text, FileText-file_parts, begins_header-BeginsHeader, BeginsHeader-begins_header, BeginsHeader-text}
 

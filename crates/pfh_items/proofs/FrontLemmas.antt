@@ -1,12 +1,6 @@
 -- The fronts of a file without fault, and the octets of a file.
 use Rattle.std.proofs.Common.{◌≡◌, ℕ, ◌<◌, List, [], ◌∷◌, ◌++◌, length, sym, ap, ◌∙◌, subst, arith, lit<, append_assoc, length-append}
-use Rattle.std.proofs.lemmas.List.{nil_from_length}
-use Rattle.std.proofs.lemmas.List.Elements.{All-append, All-cons, All-from_recursion, All-nil}
-use Rattle.px_base.specs.Octets.{IsOctets}
-use Rattle.px_base.specs.Numbers.{le16_octets, le32}
-use Rattle.pfh_items.specs.Faults.{content_of}
-use Rattle.pfh_items.specs.Laws.{HasNoFront, IsOctetsAsBody}
-use Rattle.pfh_items.specs.Layout.{ItemValue, AreItems, items_text, item_text, end_item, header_start, header_text, FileText}
+use Rattle.pfh_items.proofs.Names.{nil_from_length, All-append, All-cons, All-from_recursion, All-nil, IsOctets, le16_octets, le32, content_of, HasNoFront, IsOctetsAsBody, ItemValue, AreItems, items_text, item_text, end_item, header_start, header_text, FileText}
 use Rattle.pfh_items.proofs.HeaderLemmas.{one_header}
 use Rattle.pfh_items.proofs.StampLemmas.{IsOctets-le16}
 

@@ -1,16 +1,6 @@
 -- A file, its header and its body.
 use Rattle.std.proofs.Common.{◌≡◌, ℕ, ◌+◌, ◌==◌, ◌<◌, List, [], ◌∷◌, ◌++◌, length, take, drop, Bool, true, false, cond, Some, None, refl, sym, ap, ◌∙◌, subst, arith, length-append, append_assoc, zero-add}
-use Rattle.std.proofs.lemmas.Bool.{eqb-true, and_parts, false≢true, and_right}
-use Rattle.std.proofs.lemmas.List.{append-nil, take_at, drop_at}
-use Rattle.std.proofs.lemmas.List.Elements.{All-drop}
-use Rattle.px_base.specs.Octets.{IsOctets}
-use Rattle.pfh_items.specs.declared.items.Stop.{Stop}
-use Rattle.pfh_items.specs.declared.items.Stop.TheVariants.{EndItem, Ran}
-use Rattle.pfh_items.specs.Faults.{BeginsHeader, begins_header, header_before, file_parts}
-use Rattle.pfh_items.specs.Laws.{IsOneHeader}
-use Rattle.pfh_items.specs.Layout.{ItemValue, HeaderValue, AreItems, items_text, end_item, header_start, header_text, HeaderText, FileText}
-use Rattle.pfh_items.specs.Walk.{ItemList, StopsAt, items_from}
-use Rattle.pfh_items.specs.Values.{whole_items}
+use Rattle.pfh_items.proofs.Names.{eqb-true, and_parts, false≢true, and_right, append-nil, take_at, drop_at, All-drop, IsOctets, Stop, EndItem, Ran, BeginsHeader, begins_header, header_before, file_parts, IsOneHeader, ItemValue, HeaderValue, AreItems, items_text, end_item, header_start, header_text, HeaderText, FileText, ItemList, StopsAt, items_from, whole_items}
 use Rattle.pfh_items.proofs.WalkLemmas.{ItemsFrom-items_from, items_from-whole}
 
 abbrev IsOctet : ℕ → Type 0

@@ -6,3 +6,4 @@ pub mod Offered
 mod StampLemmas
 mod TextLemmas
 mod WalkLemmas
+mod Names

@@ -1,16 +1,8 @@
 -- A stamped file.
 use Rattle.std.proofs.Common.{◌≡◌, ℕ, ◌+◌, ◌^◌, ◌<◌, ◌≤◌, ◌==◌, List, [], ◌∷◌, ◌++◌, length, map, get_or, ◌&&◌, ◌-◌, inl, inr, Bool, true, false, cond, refl, sym, ap, ◌∙◌, subst, arith, lit<, lit≤, length-append}
-use Rattle.std.specs.Prelude.{replicate, nat_le}
-use Rattle.std.proofs.lemmas.Bool.{eqb-true, leb-true, and_parts, or_cases}
-use Rattle.std.proofs.lemmas.List.{length-replicate}
-use Rattle.std.proofs.lemmas.List.Elements.{All-append, All-from_recursion, All-replicate}
 use Rattle.px_base.specs.CallSign.{CallSign, IsCall, is_call_char}
-use Rattle.px_base.specs.Numbers.{le16_octets, le32_octets}
-use Rattle.px_base.specs.Octets.{IsOctets}
-use Rattle.pfh_items.specs.Faults.{with_content, header_sum}
-use Rattle.pfh_items.specs.Laws.{IsOneStamp}
-use Rattle.pfh_items.specs.Layout.{ItemValue, IsItem, AreItems, header_text, FileText}
 use Rattle.pfh_items.specs.Stamp.{StampValue, is_number_item, is_uploader_item, is_upload_time_item, stamped_item, stamped_items, stamped_parts, stamped}
+use Rattle.pfh_items.proofs.Names.{replicate, nat_le, eqb-true, leb-true, and_parts, or_cases, length-replicate, All-append, All-from_recursion, All-replicate, le16_octets, le32_octets, IsOctets, with_content, header_sum, IsOneStamp, ItemValue, IsItem, AreItems, header_text, FileText}
 use Rattle.pfh_items.proofs.TextLemmas.{item_at}
 use Rattle.pfh_items.proofs.HeaderLemmas.{file_parts-text}
 

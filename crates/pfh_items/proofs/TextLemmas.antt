@@ -1,11 +1,6 @@
 -- An item and its text.
 use Rattle.std.proofs.Common.{◌≡◌, ℕ, ◌+◌, ◌*◌, ◌/◌, ◌%◌, ◌<◌, ◌≤◌, ◌==◌, ◌&&◌, List, [], ◌∷◌, ◌++◌, length, take, drop, true, false, refl, sym, ap, ◌∙◌, arith, length-append}
-use Rattle.std.proofs.lemmas.Bool.{le-leb, eqb-true, and_from, and_parts, eq-eqb, false_from_ne_true, both_ways}
-use Rattle.std.proofs.lemmas.List.{take_at, drop_at, drop-drop, take-append-drop, length-take-le, nil_from_length}
-use Rattle.std.proofs.lemmas.List.Elements.{All-take, All-drop}
-use Rattle.px_base.specs.Octets.{IsOctets}
-use Rattle.pfh_items.specs.Layout.{ItemValue, IsItem, item_text}
-use Rattle.pfh_items.specs.Walk.{item_len, starts_whole, starts_end, item_in}
+use Rattle.pfh_items.proofs.Names.{le-leb, eqb-true, and_from, and_parts, eq-eqb, false_from_ne_true, both_ways, take_at, drop_at, drop-drop, take-append-drop, length-take-le, nil_from_length, All-take, All-drop, IsOctets, ItemValue, IsItem, item_text, item_len, starts_whole, starts_end, item_in}
 
 abbrev IsOctet : ℕ → Type 0
 IsOctet octet = octet < 256

@@ -1,14 +1,6 @@
 -- The items of octets from a place on: those that are read are the only ones.
 use Rattle.std.proofs.Common.{◌≡◌, ℕ, zero, suc, ◌+◌, ◌<◌, ◌≤◌, List, [], ◌∷◌, ◌++◌, length, drop, slice_index, get_or, ◌&&◌, ◌⊎◌, Bool, true, false, cond, refl, sym, ap, ◌∙◌, subst, arith, length-append, length-drop, append_assoc, add-zero, inl, inr}
-use Rattle.std.proofs.lemmas.Bool.{le-leb, leb-true, eqb-true, and_parts, both_ways, cases_Bool, false≢true}
-use Rattle.std.proofs.lemmas.List.{drop_at, length-take-le}
-use Rattle.std.proofs.lemmas.List.Elements.{All-drop}
-use Rattle.px_base.specs.Octets.{IsOctets}
-use Rattle.pfh_items.specs.declared.items.Stop.{Stop}
-use Rattle.pfh_items.specs.declared.items.Stop.TheVariants.{EndItem, Ran}
-use Rattle.pfh_items.specs.Layout.{ItemValue, IsItem, AreItems, item_text, items_text, end_item}
-use Rattle.pfh_items.specs.Walk.{ItemList, StartsCut, StopsAt, ItemsFrom, item_len, starts_whole, starts_end, item_in, with_item, items_within, items_from}
-use Rattle.pfh_items.specs.Laws.{IsOneWalk}
+use Rattle.pfh_items.proofs.Names.{le-leb, leb-true, eqb-true, and_parts, both_ways, cases_Bool, false≢true, drop_at, length-take-le, All-drop, IsOctets, Stop, EndItem, Ran, ItemValue, IsItem, AreItems, item_text, items_text, end_item, ItemList, StartsCut, StopsAt, ItemsFrom, item_len, starts_whole, starts_end, item_in, with_item, items_within, items_from, IsOneWalk}
 use Rattle.pfh_items.proofs.TextLemmas.{length-item_text, starts_whole-text, starts_end-text, item_in-text, drop-text, text-front, IsItem-item_in}
 
 abbrev IsOctet : ℕ → Type 0

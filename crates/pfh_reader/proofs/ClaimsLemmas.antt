@@ -1,16 +1,6 @@
 -- What is kept of items, with one more item, and what it says of the file's first fault.
 use Rattle.std.proofs.Common.{◌≡◌, ℕ, zero, suc, ◌<◌, ◌==◌, ◌&&◌, List, [], ◌∷◌, ◌++◌, length, get_or, find, Bool, true, false, not, cond, Some, option_map, unwrap_or, refl, sym, ap, ◌∙◌, arith, length-append}
-use Rattle.std.specs.List.{list_all}
-use Rattle.std.proofs.lemmas.Bool.{eq-eqb, both_ways}
-use Rattle.std.proofs.lemmas.List.{append-nil, same_lists}
-use Rattle.std.proofs.lemmas.List.Elements.{filter-append}
-use Rattle.px_base.specs.Numbers.{le16, le32}
-use Rattle.pfh_items.specs.declared.table.MandatoryItem.{MandatoryItem}
-use Rattle.pfh_items.specs.Faults.{items_with, content_of, has_none, is_one_of_len}
-use Rattle.pfh_items.specs.Layout.{ItemValue}
-use Rattle.pfh_reader.specs.declared.claims.Standing.{Standing}
-use Rattle.pfh_reader.specs.declared.claims.Standing.TheVariants.{Missing, Once, Wrong}
-use Rattle.pfh_reader.specs.Claims.{standing_of, standings, standing_after, standing_with, noted, is_missing, is_once, Says16, Says32}
+use Rattle.pfh_reader.proofs.Names.{list_all, eq-eqb, both_ways, append-nil, same_lists, filter-append, le16, le32, MandatoryItem, items_with, content_of, has_none, is_one_of_len, ItemValue, Standing, Missing, Once, Wrong, standing_of, standings, standing_after, standing_with, noted, is_missing, is_once, Says16, Says32}
 
 -- the items of an id with one more item
 one_more : (b : Bool) (item : ItemValue) → List ItemValue

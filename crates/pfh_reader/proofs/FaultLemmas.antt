@@ -1,21 +1,7 @@
 -- What is kept of a file's items and octets says its first fault.
 use Rattle.std.proofs.Common.{◌≡◌, ℕ, ◌+◌, ◌-◌, ◌%◌, ◌/◌, ◌==◌, ◌&&◌, List, [], ◌++◌, length, Bool, true, false, not, cond, Option, Some, None, option_map, refl, sym, ap, ◌∙◌, subst}
-use Rattle.std.specs.List.{list_all}
-use Rattle.std.proofs.lemmas.Bool.{and_parts, false_from_ne_true}
-use Rattle.px_base.specs.Numbers.{le16, le32, sum16}
 use Rattle.pfh_items.specs.declared.fault.FileFault.{FileFault}
-use Rattle.pfh_items.specs.declared.fault.FileFault.TheVariants.{NoHeader, NoEndItem}
-use Rattle.pfh_items.specs.declared.table.MandatoryItem.{MandatoryItem}
-use Rattle.pfh_items.specs.Faults.{items_with, content_of, header_sum, BeginsHeader, FirstFault, IsFaultless, IsFound, code_of, fault_code, fault_of_parts, file_parts, first_fault, is_one_of_len, has_mandatory, fits_file, fault_of}
-use Rattle.pfh_items.specs.Layout.{ItemValue, AreItems, FileText, header_text}
-use Rattle.pfh_items.specs.Table.{mandatory_items}
-use Rattle.pfh_items.proofs.Offered.{begins_header-BeginsHeader, BeginsHeader-begins_header, body_test, fault_of-is, FitsFile-fits_file, header_test, IsChosen, IsFound-chosen, once_each, one_header}
-use Rattle.pfh_reader.specs.declared.claims.Claims.{Claims}
-use Rattle.pfh_reader.specs.declared.claims.Standing.{Standing}
-use Rattle.pfh_reader.specs.declared.measures.Measures.{Measures}
-use Rattle.pfh_reader.specs.Check.{IsSums}
-use Rattle.pfh_reader.specs.Claims.{IsClaims, is_missing, is_once}
-use Rattle.pfh_reader.specs.Measures.{IsMeasured}
+use Rattle.pfh_reader.proofs.Names.{list_all, and_parts, false_from_ne_true, le16, le32, sum16, NoHeader, NoEndItem, MandatoryItem, items_with, content_of, header_sum, BeginsHeader, FirstFault, IsFaultless, IsFound, code_of, fault_code, fault_of_parts, file_parts, first_fault, is_one_of_len, has_mandatory, fits_file, fault_of, ItemValue, AreItems, FileText, header_text, mandatory_items, begins_header-BeginsHeader, BeginsHeader-begins_header, body_test, fault_of-is, FitsFile-fits_file, header_test, IsChosen, IsFound-chosen, once_each, one_header, Claims, Standing, Measures, IsSums, IsClaims, is_missing, is_once, IsMeasured}
 use Rattle.pfh_reader.proofs.ClaimsLemmas.{all_stand, all_once, content_of-items_with}
 use Rattle.pfh_reader.proofs.SumLemmas.{header_sum-own}
 

@@ -1,21 +1,7 @@
 -- What a checker keeps of more octets.
 use Rattle.std.proofs.Common.{◌≡◌, ℕ, ◌+◌, ◌%◌, ◌<◌, ◌≤◌, List, [], ◌∷◌, ◌++◌, length, take, drop, get_or, None, refl, sym, ap, ◌∙◌, subst, arith, length-append, append_assoc}
-use Rattle.std.proofs.lemmas.Bool.{leb-false, lt-leb}
-use Rattle.std.proofs.lemmas.List.{append-nil, take_at, drop_at, nil_from_length}
-use Rattle.std.proofs.lemmas.List.Elements.{All-append, All-drop, All-from_recursion}
-use Rattle.px_base.specs.Numbers.{sum16}
-use Rattle.px_base.specs.Octets.{IsOctets}
-use Rattle.pfh_items.specs.declared.items.Stop.TheVariants.{EndItem, Ran}
-use Rattle.pfh_items.specs.Faults.{BeginsHeader, file_parts}
-use Rattle.pfh_items.specs.Layout.{ItemValue, AreItems, item_text, items_text, end_item, header_start, header_text, FileText}
-use Rattle.pfh_items.specs.Walk.{ItemList, StopsAt, item_len, items_from}
-use Rattle.pfh_items.proofs.Offered.{BeginsHeader-text, file_parts-ran, items_from-ran, ItemsFrom-items_from, none-FileText, short-StartsCut}
-use Rattle.pfh_reader.specs.declared.checker.Stage.{Stage}
 use Rattle.pfh_reader.specs.declared.checker.Stage.TheVariants as stages
-use Rattle.pfh_reader.specs.declared.claims.Claims.{Claims}
-use Rattle.pfh_reader.specs.declared.measures.Measures.{Measures}
-use Rattle.pfh_reader.specs.Measures.{with_header, at_end}
-use Rattle.pfh_reader.specs.Feed.{CheckerValue, HasFed, Extends, IsCutItem, KeepsClaims, StandsAt, StandsAmong, StandsBehind, TakesEnd, TakesItems}
+use Rattle.pfh_reader.proofs.Names.{leb-false, lt-leb, append-nil, take_at, drop_at, nil_from_length, All-append, All-drop, All-from_recursion, sum16, IsOctets, EndItem, Ran, BeginsHeader, file_parts, ItemValue, AreItems, item_text, items_text, end_item, header_start, header_text, FileText, ItemList, StopsAt, item_len, items_from, BeginsHeader-text, file_parts-ran, items_from-ran, ItemsFrom-items_from, none-FileText, short-StartsCut, Stage, Claims, Measures, with_header, at_end, CheckerValue, HasFed, Extends, IsCutItem, KeepsClaims, StandsAt, StandsAmong, StandsBehind, TakesEnd, TakesItems}
 use Rattle.pfh_reader.proofs.SumLemmas.{sum16-append}
 
 abbrev IsOctet : ℕ → Type 0

@@ -2,3 +2,4 @@ pub mod ClaimsLemmas
 pub mod FaultLemmas
 mod FeedLemmas
 mod SumLemmas
+mod Names

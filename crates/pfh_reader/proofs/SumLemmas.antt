@@ -1,12 +1,7 @@
 -- Sums of octets, and the header's sum without the two octets of its own item.
 use Rattle.std.proofs.Common.{◌≡◌, ℕ, ◌+◌, ◌-◌, ◌%◌, ◌/◌, ◌<◌, ◌≤◌, ◌==◌, List, [], ◌∷◌, ◌++◌, length, Bool, true, false, cond, sum, sum_by, refl, sym, ap, ◌∙◌, subst, arith}
-use Rattle.std.specs.List.{AllByRecursion}
 use Rattle.std.proofs.lemmas.List.Sums.{sum_by-append, sum_by-cons}
-use Rattle.px_base.specs.Numbers.{le16, sum16}
-use Rattle.px_base.specs.Octets.{IsOctets}
-use Rattle.pfh_items.specs.Faults.{items_with, with_content, header_sum}
-use Rattle.pfh_items.proofs.Offered.{item_at}
-use Rattle.pfh_items.specs.Layout.{ItemValue, IsItem, AreItems, item_text, items_text, end_item, header_text}
+use Rattle.pfh_reader.proofs.Names.{AllByRecursion, le16, sum16, IsOctets, items_with, with_content, header_sum, item_at, ItemValue, IsItem, AreItems, item_text, items_text, end_item, header_text}
 
 -- the sum of octets and others
 sum-append : (xs ys : List ℕ) → sum (xs ++ ys) ≡ sum xs + sum ys

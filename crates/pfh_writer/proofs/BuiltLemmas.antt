@@ -1,13 +1,6 @@
 -- A built file keeps all rules.
 use Rattle.std.proofs.Common.{◌≡◌, drop, ℕ, ◌+◌, ◌%◌, ◌^◌, ◌<◌, ◌≤◌, ◌==◌, List, [], ◌∷◌, ◌++◌, length, true, cond, sum, refl, sym, ap, ◌∙◌, subst, arith, append_assoc, length-append}
-use Rattle.std.specs.List.{AllByRecursion}
-use Rattle.std.proofs.lemmas.List.{append-nil, map-append}
-use Rattle.px_base.specs.Numbers.{le16, le32, le16_octets, le32_octets, sum16}
-use Rattle.pfh_items.specs.Faults.{items_with, content_of, with_content, header_sum, StandsOnce, IsFaultless}
-use Rattle.pfh_items.specs.Layout.{ItemValue, AreItems, item_text, items_text, end_item, header_start, header_text}
-use Rattle.pfh_items.specs.Stamp.{renewed}
-use Rattle.pfh_items.specs.Table.{mandatory_items, is_mandatory}
-use Rattle.pfh_writer.specs.Built.{BuilderValue, AreOthers, item, mandatory_saying, items_saying, built_len, built_file_len, built_items}
+use Rattle.pfh_writer.proofs.Names.{AllByRecursion, append-nil, map-append, le16, le32, le16_octets, le32_octets, sum16, items_with, content_of, with_content, header_sum, StandsOnce, IsFaultless, ItemValue, AreItems, item_text, items_text, end_item, header_start, header_text, renewed, mandatory_items, is_mandatory, BuilderValue, AreOthers, item, mandatory_saying, items_saying, built_len, built_file_len, built_items}
 use Rattle.pfh_writer.proofs.ItemsLemmas.{AreItems-append, all_stand, header_sum-renewed, items_text-append, le16_of, length-items_text, sum16_below}
 use Rattle.pfh_writer.proofs.OthersLemmas.{none_with, content_stays}
 use Rattle.pfh_writer.proofs.SumLemmas.{sum-append}

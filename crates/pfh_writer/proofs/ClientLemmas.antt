@@ -1,12 +1,6 @@
 -- What a file keeps once it is stamped.
 use Rattle.std.proofs.Common.{◌≡◌, ℕ, ◌==◌, ◌||◌, ◌⊎◌, List, [], ◌∷◌, length, map, not, Bool, true, false, cond, refl, sym, ap, ◌∙◌, inl, inr}
-use Rattle.std.proofs.lemmas.Bool.{eq-eqb, and_parts, and_from}
-use Rattle.px_base.specs.CallSign.{IsCall}
-use Rattle.px_base.specs.Numbers.{le16_octets, le32_octets}
-use Rattle.pfh_items.specs.Faults.{header_sum}
-use Rattle.pfh_items.specs.Layout.{ItemValue}
-use Rattle.pfh_items.specs.Stamp.{StampValue, is_number_item, is_server_item, is_uploader_item, is_upload_time_item, stamped_item, stamped_items}
-use Rattle.pfh_items.proofs.Offered.{AreItems-stamped_items, item_at, length-chars, no_fault, stamped-text}
+use Rattle.pfh_writer.proofs.Names.{eq-eqb, and_parts, and_from, IsCall, le16_octets, le32_octets, header_sum, ItemValue, StampValue, is_number_item, is_server_item, is_uploader_item, is_upload_time_item, stamped_item, stamped_items, AreItems-stamped_items, item_at, length-chars, no_fault, stamped-text}
 use Rattle.pfh_writer.proofs.FilledLemmas.{id-stamped}
 use Rattle.pfh_writer.specs.KeptFile.{KeptFileLaw, client_items, ids_of}
 use Rattle.pfh_writer.proofs.FaultlessLemmas.{stamped-faultless}

@@ -1,19 +1,6 @@
 -- A file without fault has none once it is stamped.
 use Rattle.std.proofs.Common.{◌≡◌, ℕ, ◌+◌, ◌==◌, List, [], ◌∷◌, ◌++◌, length, map, Bool, true, false, cond, Option, None, refl, sym, ap, ◌∙◌, subst, arith, length-append}
-use Rattle.std.specs.Prelude.{option_map}
-use Rattle.std.specs.List.{AllByRecursion}
-use Rattle.px_base.specs.CallSign.{IsCall}
-use Rattle.px_base.specs.Numbers.{le16, le16_octets, le32, sum16}
-use Rattle.pfh_items.specs.declared.fault.FileFault.{FileFault}
-use Rattle.pfh_items.specs.declared.table.Form.TheVariants.{Number}
-use Rattle.pfh_items.specs.declared.table.MandatoryItem.{MandatoryItem}
-use Rattle.pfh_items.specs.Faults.{IsFaultless, StandsOnce, code_of, content_of, fault_code, header_sum, items_with, with_content}
-use Rattle.pfh_items.specs.Layout.{ItemValue, AreItems, header_text}
-use Rattle.pfh_items.specs.Stamp.{StampValue, stamped, stamped_item, stamped_items}
-use Rattle.pfh_items.specs.Table.{mandatory_items}
-use Rattle.pfh_items.proofs.Offered.{AreItems-stamped_items, first_fault-none, item_at, stamped-text}
-use Rattle.pfh_writer.specs.Given.{stamped_sum}
-use Rattle.pfh_writer.specs.Stamping.{given_data, given_item}
+use Rattle.pfh_writer.proofs.Names.{option_map, AllByRecursion, IsCall, le16, le16_octets, le32, sum16, FileFault, Number, MandatoryItem, IsFaultless, StandsOnce, code_of, content_of, fault_code, header_sum, items_with, with_content, ItemValue, AreItems, header_text, StampValue, stamped, stamped_item, stamped_items, mandatory_items, AreItems-stamped_items, first_fault-none, item_at, stamped-text, stamped_sum, given_data, given_item}
 use Rattle.pfh_writer.proofs.FilledLemmas.{given_items, length-given_data, length-given_items}
 use Rattle.pfh_writer.proofs.ItemsLemmas.{all_stand, content-once, header_sum-renewed, le16_of, sum16_below}
 use Rattle.pfh_writer.proofs.StampedLemmas.{length-header}

@@ -1,18 +1,6 @@
 -- Items with the data that a server and a stamper give them.
 use Rattle.std.proofs.Common.{◌≡◌, ℕ, ◌==◌, ◌&&◌, List, [], ◌∷◌, length, map, Bool, true, false, cond, Some, None, refl, sym, ap, ◌∙◌, arith, length-append}
-use Rattle.std.specs.List.{AllByRecursion}
-use Rattle.std.specs.Option.{unwrap_or}
-use Rattle.std.proofs.lemmas.Bool.{eq-eqb, eqb-true, false≢true}
-use Rattle.px_base.specs.CallSign.{IsCall}
-use Rattle.px_base.specs.Numbers.{le16_octets, le32_octets}
-use Rattle.pfh_items.specs.Faults.{with_content, IsFaultless}
-use Rattle.pfh_items.specs.Layout.{ItemValue, items_text}
-use Rattle.pfh_items.specs.Stamp.{StampValue, is_number_item, is_uploader_item, is_upload_time_item, stamped_item, stamped_items}
-use Rattle.pfh_items.specs.declared.table.Form.TheVariants.{Number}
-use Rattle.pfh_items.proofs.Offered.{item_at, length-chars}
-use Rattle.pfh_writer.specs.Given.{stamped_sum}
-use Rattle.pfh_writer.specs.Stamping.{server_data, given_data, given_item}
-use Rattle.pfh_writer.specs.Sums.{filled_item}
+use Rattle.pfh_writer.proofs.Names.{AllByRecursion, unwrap_or, eq-eqb, eqb-true, false≢true, IsCall, le16_octets, le32_octets, with_content, IsFaultless, ItemValue, items_text, StampValue, is_number_item, is_uploader_item, is_upload_time_item, stamped_item, stamped_items, Number, item_at, length-chars, stamped_sum, server_data, given_data, given_item, filled_item}
 use Rattle.pfh_writer.proofs.ItemsLemmas.{len_of_once}
 
 -- the lengths of the two items that a stamp fills in whatever length they have

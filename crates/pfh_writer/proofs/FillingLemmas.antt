@@ -1,22 +1,7 @@
 -- A walk over a header in which a server's items are filled in, and the sum that is renewed after it.
 use Rattle.std.proofs.Common.{◌≡◌, ℕ, ◌+◌, ◌-◌, ◌*◌, ◌%◌, ◌≤◌, ◌==◌, ◌&&◌, List, [], ◌∷◌, ◌++◌, length, map, take, drop, get_or, sum, Bool, true, false, cond, Option, Some, None, refl, sym, ap, ◌∙◌, subst, arith, append_assoc, length-append, length-drop}
-use Rattle.std.specs.Option.{unwrap_or}
-use Rattle.std.proofs.lemmas.Bool.{eq-eqb, leb-true}
-use Rattle.std.proofs.lemmas.List.{take_at, drop_at, take_all, drop_all, append-nil, take-append-drop, get_or-append_right, get_or_append_left}
-use Rattle.px_base.specs.CallSign.{IsCall}
-use Rattle.px_base.specs.Numbers.{le16, le16_octets}
-use Rattle.pfh_items.specs.Faults.{IsFaultless, StandsOnce, header_sum, items_with}
-use Rattle.pfh_items.specs.Layout.{ItemValue, AreItems, item_text, items_text, end_item, header_start}
-use Rattle.pfh_items.specs.Stamp.{StampValue, stamped}
-use Rattle.pfh_items.specs.Walk.{item_len}
-use Rattle.pfh_items.specs.declared.table.Form.TheVariants.{Number}
-use Rattle.pfh_items.specs.declared.table.MandatoryItem.{MandatoryItem}
-use Rattle.pfh_items.proofs.Offered.{after_start, item_at, starts_whole-text}
 use Rattle.pfh_writer.specs.declared.filling.PassedItem.{PassedItem}
-use Rattle.pfh_writer.specs.Filling.{FillsItem, FillsFront, StaysAtEnd, sum_place_after, with_sum_changed}
-use Rattle.pfh_writer.specs.Given.{stamped_sum}
-use Rattle.pfh_writer.specs.Stamping.{server_data, given_item}
-use Rattle.pfh_writer.specs.Sums.{filled_item, data_sum}
+use Rattle.pfh_writer.proofs.Names.{unwrap_or, eq-eqb, leb-true, take_at, drop_at, take_all, drop_all, append-nil, take-append-drop, get_or-append_right, get_or_append_left, IsCall, le16, le16_octets, IsFaultless, StandsOnce, header_sum, items_with, ItemValue, AreItems, item_text, items_text, end_item, header_start, StampValue, stamped, item_len, Number, MandatoryItem, after_start, item_at, starts_whole-text, FillsItem, FillsFront, StaysAtEnd, sum_place_after, with_sum_changed, stamped_sum, server_data, given_item, filled_item, data_sum}
 use Rattle.pfh_writer.proofs.FilledLemmas.{number_lens, server_len}
 use Rattle.pfh_writer.proofs.FrontLemmas.{stamped_parts_text}
 use Rattle.pfh_writer.proofs.ItemsLemmas.{field-once}

@@ -1,17 +1,6 @@
 -- What a stamper gave is the front of the stamped file.
 use Rattle.std.proofs.Common.{◌≡◌, ℕ, suc, ◌+◌, ◌/◌, ◌%◌, ◌≤◌, List, [], ◌∷◌, ◌++◌, length, map, take, drop, Option, Some, None, refl, sym, ap, ◌∙◌, subst, arith, append_assoc, length-append, zero-add}
-use Rattle.std.specs.Option.{unwrap_or}
-use Rattle.std.proofs.lemmas.List.{append-nil, take_all, take_at, drop_at, take-append-le, map-append}
-use Rattle.px_base.specs.CallSign.{IsCall}
-use Rattle.px_base.specs.Numbers.{le16_octets}
-use Rattle.pfh_items.specs.Faults.{IsFaultless}
-use Rattle.pfh_items.specs.Layout.{ItemValue, AreItems, item_text, items_text, end_item, header_start}
-use Rattle.pfh_items.specs.Stamp.{StampValue, stamped_items, stamped}
-use Rattle.pfh_items.proofs.Offered.{after_start, stamped-text}
-use Rattle.pfh_writer.specs.declared.stamper.Stage.{Stage}
-use Rattle.pfh_writer.specs.declared.stamper.Stage.TheVariants.{Start, Begun, ItemStart, IdCut, IdRead, InData, Body}
-use Rattle.pfh_writer.specs.Given.{stamped_sum}
-use Rattle.pfh_writer.specs.Stamping.{fixed_data, given_data, given_item, PassesItems, IsCutData, StandsAt, StamperValue, HasStamped}
+use Rattle.pfh_writer.proofs.Names.{unwrap_or, append-nil, take_all, take_at, drop_at, take-append-le, map-append, IsCall, le16_octets, IsFaultless, ItemValue, AreItems, item_text, items_text, end_item, header_start, StampValue, stamped_items, stamped, after_start, stamped-text, Stage, Start, Begun, ItemStart, IdCut, IdRead, InData, Body, stamped_sum, fixed_data, given_data, given_item, PassesItems, IsCutData, StandsAt, StamperValue, HasStamped}
 use Rattle.pfh_writer.proofs.ItemsLemmas.{items_text-append, Splits, splits, no_end_item}
 use Rattle.pfh_writer.proofs.StepLemmas.{passes_more, StampsOn}
 use Rattle.pfh_writer.proofs.FilledLemmas.{given_items, length-given_items, length-given_data}

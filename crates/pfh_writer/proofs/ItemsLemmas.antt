@@ -1,14 +1,7 @@
 -- Texts of items, one after another.
 use Rattle.std.proofs.Common.{◌≡◌, ℕ, ◌+◌, ◌<◌, ◌==◌, List, [], ◌∷◌, ◌++◌, length, drop, filter, Bool, true, false, cond, Option, Some, find, refl, sym, ap, ◌∙◌, subst, append_assoc, length-append, arith, unwrap_or}
-use Rattle.std.specs.List.{AllByRecursion}
 use Rattle.std.specs.Option.{option_map}
-use Rattle.std.proofs.lemmas.Bool.{false≢true}
-use Rattle.px_base.specs.Numbers.{le16, le16_octets, sum16}
-use Rattle.pfh_items.specs.Faults.{content_of, field_of, header_sum, items_with, Stands, StandsOnce, with_content}
-use Rattle.pfh_items.specs.Layout.{ItemValue, IsItem, AreItems, end_item, header_text, item_text, items_text}
-use Rattle.pfh_items.specs.Walk.{item_in, item_len, starts_end}
-use Rattle.pfh_items.specs.declared.table.MandatoryItem.{MandatoryItem}
-use Rattle.pfh_items.proofs.Offered.{drop-text, item_at, item_in-text, starts_end-text}
+use Rattle.pfh_writer.proofs.Names.{AllByRecursion, false≢true, le16, le16_octets, sum16, content_of, field_of, header_sum, items_with, Stands, StandsOnce, with_content, ItemValue, IsItem, AreItems, end_item, header_text, item_text, items_text, item_in, item_len, starts_end, MandatoryItem, drop-text, item_at, item_in-text, starts_end-text}
 
 pub items_text-append : (items others : List ItemValue) → items_text (items ++ others) ≡ items_text items ++ items_text others
 items_text-append [] others = refl

@@ -12,3 +12,4 @@ pub mod StampedLemmas
 mod StepLemmas
 mod SumLemmas
 mod WholeLemmas
+mod Names

@@ -1,17 +1,8 @@
 -- The items that were put into a builder.
 use Rattle.std.proofs.Common.{◌≡◌, ℕ, ◌^◌, ◌<◌, ◌≤◌, ◌==◌, ◌&&◌, List, [], ◌∷◌, ◌++◌, length, get_or, Bool, true, false, not, cond, Some, None, refl, sym, ap, ◌∙◌, subst}
-use Rattle.std.specs.List.{AllByRecursion}
-use Rattle.std.proofs.lemmas.Bool.{eqb-true, false≢true, false_from_ne_true}
-use Rattle.std.proofs.lemmas.List.{append-nil, get_or_default}
-use Rattle.px_base.specs.Octets.{IsOctets}
-use Rattle.pfh_items.specs.Faults.{items_with, with_content}
-use Rattle.pfh_items.specs.Layout.{ItemValue, IsItem, AreItems, item_text, items_text}
-use Rattle.pfh_items.specs.Table.{fixed_len, is_mandatory, is_single}
-use Rattle.pfh_items.specs.Walk.{ItemList, items_from}
-use Rattle.pfh_items.proofs.Offered.{items_from-ran}
 use Rattle.pfh_writer.specs.declared.refusal.PutRefusal.{PutRefusal}
 use Rattle.pfh_writer.specs.declared.refusal.PutRefusal.TheVariants.{Mandatory, BadLength, Twice}
-use Rattle.pfh_writer.specs.Built.{AreOthers, item, fits_len, stands, put_refusal}
+use Rattle.pfh_writer.proofs.Names.{AllByRecursion, eqb-true, false≢true, false_from_ne_true, append-nil, get_or_default, IsOctets, items_with, with_content, ItemValue, IsItem, AreItems, item_text, items_text, fixed_len, is_mandatory, is_single, ItemList, items_from, items_from-ran, AreOthers, item, fits_len, stands, put_refusal}
 use Rattle.pfh_writer.proofs.ItemsLemmas.{items_text-append, AreItems-append}
 
 pub IsOctets-of : (octets : List ℕ) → ((i : ℕ) → get_or octets i 0 < 256) → IsOctets octets

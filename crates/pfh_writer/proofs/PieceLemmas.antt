@@ -1,7 +1,6 @@
 -- One piece of a list of pieces more, which is written in its place.
 use Rattle.std.proofs.Common.{◌≡◌, ℕ, ◌+◌, ◌<◌, List, [], ◌∷◌, ◌++◌, length, take, drop, get_or, slice_set, sym, ap, ◌∙◌, arith}
-use Rattle.std.specs.List.{flat_map}
-use Rattle.std.proofs.lemmas.List.{take_more, take_more_set, drop_more, drop-set-lt, flat_map_more}
+use Rattle.pfh_writer.proofs.Names.{flat_map, take_more, take_more_set, drop_more, drop-set-lt, flat_map_more}
 
 module _ {V : Type 0} (f : V → List ℕ) (whole pieces : List V) (i : ℕ) (d next : V) (within : i < length whole) (len : length pieces ≡ length whole)
     (rest : drop i pieces ≡ drop i whole) where

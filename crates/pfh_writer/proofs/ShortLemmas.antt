@@ -1,17 +1,8 @@
 -- The rules of the mandatory items, one after another.
 use Rattle.std.proofs.Common.{◌≡◌, ℕ, ◌+◌, ◌<◌, List, [], ◌∷◌, ◌++◌, length, take, drop, get_or, map, sym, ap, ◌∙◌, subst, arith, append_assoc, length-append, lit<, lit≤}
 use Rattle.std.proofs.Math.Seq.{drop-append_seam, take-append_seam}
-use Rattle.std.specs.List.{AllByRecursion}
-use Rattle.std.proofs.lemmas.List.{append-nil, take_more, drop_more, map_push}
-use Rattle.px_base.specs.Numbers.{le16_octets}
-use Rattle.pfh_items.specs.Faults.{StandsOnce, content_of}
-use Rattle.pfh_items.specs.Layout.{AreItems, HeaderText, IsItem, ItemValue, end_item, header_start, header_text, item_text, items_text}
-use Rattle.pfh_items.specs.Table.{mandatory_items}
 use Rattle.pfh_items.specs.declared.table.Form.{Form}
-use Rattle.pfh_items.specs.declared.table.Form.TheVariants.{Number, Text}
-use Rattle.pfh_items.specs.declared.table.MandatoryItem.{MandatoryItem}
-use Rattle.pfh_items.proofs.Offered.{IsOctets-le16}
-use Rattle.pfh_writer.specs.Short.{HasEachOnce, short_item}
+use Rattle.pfh_writer.proofs.Names.{AllByRecursion, append-nil, take_more, drop_more, map_push, le16_octets, StandsOnce, content_of, AreItems, HeaderText, IsItem, ItemValue, end_item, header_start, header_text, item_text, items_text, mandatory_items, Number, Text, MandatoryItem, IsOctets-le16, HasEachOnce, short_item}
 use Rattle.pfh_writer.proofs.ItemsLemmas.{AreItems-append, content-once, items_text-append, length-items_text}
 
 -- the length of these items' texts

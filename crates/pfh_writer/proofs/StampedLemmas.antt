@@ -1,22 +1,9 @@
 -- A file is as long once it is stamped.
 use Rattle.std.proofs.Common.{◌≡◌, ℕ, zero, suc, ◌+◌, ◌≤◌, List, [], ◌++◌, length, drop, slice_index, Bool, true, false, cond, Option, Some, None, refl, sym, ap, ◌∙◌, arith, length-append, length-drop}
-use Rattle.std.specs.Prelude.{option_map}
-use Rattle.std.specs.List.{AllByRecursion}
-use Rattle.std.proofs.lemmas.Bool.{leb-true}
-use Rattle.std.proofs.lemmas.List.{length-take-le}
-use Rattle.px_base.specs.CallSign.{IsCall}
-use Rattle.pfh_items.specs.declared.fault.FileFault.{FileFault}
 use Rattle.pfh_items.specs.declared.fault.FileFault.TheVariants.{NoHeader}
 use Rattle.pfh_items.specs.declared.items.Stop.{Stop}
 use Rattle.pfh_items.specs.declared.items.Stop.TheVariants.{EndItem, Ran}
-use Rattle.pfh_items.specs.declared.table.Form.TheVariants.{Number}
-use Rattle.pfh_items.specs.Faults.{StandsOnce, begins_header, code_of, file_parts, fault_code, fault_of, fault_of_parts, first_fault, fits_file, has_mandatory, header_before}
-use Rattle.pfh_items.specs.Layout.{ItemValue, HeaderValue, item_text, items_text, end_item, header_text}
-use Rattle.pfh_items.specs.Stamp.{StampValue, stamped, stamped_items, stamped_parts}
-use Rattle.pfh_items.specs.Table.{mandatory_items}
-use Rattle.pfh_items.specs.Walk.{ItemList, item_in, item_len, items_from, items_within, starts_end, starts_whole, with_item}
-use Rattle.pfh_items.proofs.Offered.{begins_header-front, body_test, chosen-by, fits_file-FitsFile, header_test, length-item_text}
-use Rattle.pfh_writer.specs.Given.{stamped_sum}
+use Rattle.pfh_writer.proofs.Names.{option_map, AllByRecursion, leb-true, length-take-le, IsCall, FileFault, Number, StandsOnce, begins_header, code_of, file_parts, fault_code, fault_of, fault_of_parts, first_fault, fits_file, has_mandatory, header_before, ItemValue, HeaderValue, item_text, items_text, end_item, header_text, StampValue, stamped, stamped_items, stamped_parts, mandatory_items, ItemList, item_in, item_len, items_from, items_within, starts_end, starts_whole, with_item, begins_header-front, body_test, chosen-by, fits_file-FitsFile, header_test, length-item_text, stamped_sum}
 use Rattle.pfh_writer.proofs.FilledLemmas.{all_given, length-given_items}
 use Rattle.pfh_writer.proofs.ItemsLemmas.{len_of_once}
 

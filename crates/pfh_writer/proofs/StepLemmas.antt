@@ -1,19 +1,8 @@
 -- A stamper that goes on by one octet.
 use Rattle.std.proofs.Common.{◌≡◌, ℕ, ◌+◌, ◌*◌, ◌/◌, ◌%◌, ◌^◌, ◌<◌, ◌≤◌, ◌==◌, List, [], ◌∷◌, ◌++◌, length, map, take, drop, get_or, slice_set, Bool, true, false, cond, Option, Some, None, refl, sym, ap, ◌∙◌, subst, arith, append_assoc, nat_lt, replicate}
-use Rattle.std.specs.Option.{unwrap_or}
-use Rattle.std.proofs.lemmas.Bool.{eqb-true, eqb-false, ltb-true, ltb-false}
-use Rattle.std.proofs.lemmas.List.{append-nil, take_all, take_more, take_more_set, drop_more, drop-set-lt, map-append, length_push, length-replicate, nil_from_length}
 use Rattle.std.proofs.lemmas.List.Elements.{All-append, All-from_recursion}
-use Rattle.px_base.specs.CallSign.{IsCall}
-use Rattle.px_base.specs.Numbers.{le16_octets}
-use Rattle.px_base.specs.Octets.{IsOctets}
-use Rattle.pfh_items.specs.Layout.{ItemValue, IsItem, item_text, items_text, end_item}
-use Rattle.pfh_items.specs.Stamp.{StampValue}
-use Rattle.pfh_items.proofs.Offered.{item_at}
-use Rattle.pfh_writer.specs.declared.stamper.Stage.{Stage}
-use Rattle.pfh_writer.specs.declared.stamper.Stage.TheVariants.{Start, Begun, ItemStart, IdCut, IdRead, InData, Body}
-use Rattle.pfh_writer.specs.Stamping.{fixed_data, given_data, given_item, PassesItems, IsCutData, StandsAt, StamperValue}
 use Rattle.pfh_writer.specs.Steps.{stage_after, stage_after_len, octet_in, octet_given}
+use Rattle.pfh_writer.proofs.Names.{unwrap_or, eqb-true, eqb-false, ltb-true, ltb-false, append-nil, take_all, take_more, take_more_set, drop_more, drop-set-lt, map-append, length_push, length-replicate, nil_from_length, IsCall, le16_octets, IsOctets, ItemValue, IsItem, item_text, items_text, end_item, StampValue, item_at, Stage, Start, Begun, ItemStart, IdCut, IdRead, InData, Body, fixed_data, given_data, given_item, PassesItems, IsCutData, StandsAt, StamperValue}
 use Rattle.pfh_writer.proofs.ItemsLemmas.{items_text-append, AreItems-append}
 use Rattle.pfh_writer.proofs.FilledLemmas.{length-given_data}
 

@@ -1,17 +1,7 @@
 -- The sum of a header whose items a server fills in.
 use Rattle.std.proofs.Common.{◌≡◌, ℕ, ◌+◌, ◌%◌, ◌/◌, ◌<◌, ◌==◌, List, [], ◌∷◌, ◌++◌, length, map, Bool, true, false, cond, sum, refl, sym, ap, ◌∙◌, subst, arith, add-zero}
-use Rattle.std.specs.List.{AllByRecursion}
-use Rattle.std.specs.Option.{unwrap_or}
-use Rattle.std.proofs.lemmas.Bool.{eqb-true}
 use Rattle.std.proofs.lemmas.List.Sums.{sum_by-append, sum_by-cons}
-use Rattle.px_base.specs.CallSign.{IsCall}
-use Rattle.pfh_items.specs.Faults.{with_content, header_sum}
-use Rattle.pfh_items.specs.Layout.{ItemValue, item_text, items_text, end_item, header_start, header_text}
-use Rattle.pfh_items.specs.Stamp.{StampValue, stamped_item}
-use Rattle.pfh_items.proofs.Offered.{item_at}
-use Rattle.pfh_writer.specs.Given.{stamped_sum}
-use Rattle.pfh_writer.specs.Stamping.{server_data}
-use Rattle.pfh_writer.specs.Sums.{filled_item, data_sum}
+use Rattle.pfh_writer.proofs.Names.{AllByRecursion, unwrap_or, eqb-true, IsCall, with_content, header_sum, ItemValue, item_text, items_text, end_item, header_start, header_text, StampValue, stamped_item, item_at, stamped_sum, server_data, filled_item, data_sum}
 use Rattle.pfh_writer.proofs.FilledLemmas.{HasNumberLen, filled-stamped, server_len}
 
 pub sum-append : (xs ys : List ℕ) → sum (xs ++ ys) ≡ sum xs + sum ys

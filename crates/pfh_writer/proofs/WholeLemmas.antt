@@ -1,10 +1,6 @@
 -- The header of a file that keeps all rules.
 use Rattle.std.proofs.Common.{◌≡◌, ℕ, List, [], ◌++◌, drop, sym, ap, ◌∙◌}
-use Rattle.std.proofs.lemmas.List.{append-nil, append_cancel_right}
-use Rattle.pfh_items.specs.Faults.{IsFaultless}
-use Rattle.pfh_items.specs.Layout.{ItemValue, AreItems, header_text}
-use Rattle.pfh_items.specs.Walk.{ItemList, items_from}
-use Rattle.pfh_items.proofs.Offered.{after_start, items_from-whole}
+use Rattle.pfh_writer.proofs.Names.{append-nil, append_cancel_right, IsFaultless, ItemValue, AreItems, header_text, ItemList, items_from, after_start, items_from-whole}
 
 -- what stands before the body is the header
 pub header_is : (items : List ItemValue) (body header : List ℕ) → IsFaultless items body (header ++ body) → header ≡ header_text items

@@ -1,14 +1,8 @@
 -- Lemmas on the texts of calls.
 use Rattle.std.proofs.Common.{◌≡◌, ℕ, zero, suc, ◌+◌, ◌-◌, ◌≤◌, ◌<◌, Bool, true, false, cond, List, [], ◌∷◌, ◌++◌, length, take, drop, replicate, filter, refl, sym, ap, ◌∙◌, subst, inl, inr, arith, append_assoc, append-nil, length-drop, take-append-drop, length-take-le}
-use Rattle.std.specs.Prelude.{IsTrue, ◌==◌, if◌then◌else◌}
-use Rattle.std.specs.List.{AllByRecursion, prefix_len}
-use Rattle.std.specs.Str.{IsAscii}
-use Rattle.std.proofs.lemmas.Bool.Decides.{nat_tests}
-use Rattle.std.proofs.lemmas.Grind.{common_steps}
-use Rattle.std.proofs.lemmas.List.{take-take, drop-take}
-use Rattle.std.proofs.lemmas.List.Elements.{All-from_recursion, recursion_from_All, filter-append}
+use Rattle.std.specs.Prelude.{◌==◌, if◌then◌else◌}
+use Rattle.px_base.proofs.Names.{IsTrue, AllByRecursion, prefix_len, IsAscii, nat_tests, common_steps, take-take, drop-take, All-from_recursion, recursion_from_All, filter-append, CallSign, IsCall, IsBase, CallText, BeginsCall, FailsAt, SsidText, BeginsSsid, ReachesInSsid, IsSpelled, base_length, is_call_char, is_no_blank, call_text, padded, ssid_digits, ssid_text}
 use Rattle.px_base.proofs.Ssid.{one_ssid}
-use Rattle.px_base.specs.CallSign.{CallSign, IsCall, IsBase, CallText, BeginsCall, FailsAt, SsidText, BeginsSsid, ReachesInSsid, IsSpelled, base_length, is_call_char, is_no_blank, call_text, padded, ssid_digits, ssid_text}
 
 -- each of these characters may stand in a call
 abbrev AllChars : List ℕ → Type 0

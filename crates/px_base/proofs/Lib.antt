@@ -4,3 +4,4 @@ pub mod Calls
 mod ShelfStates
 pub mod Told
 pub mod Spelled
+mod Names

@@ -1,14 +1,9 @@
 -- Lemmas on the characters of a call.
 use Rattle.std.proofs.Common.{◌≡◌, ℕ, zero, suc, ◌+◌, ◌-◌, ◌≤◌, ◌<◌, Bool, true, false, cond, List, [], ◌∷◌, ◌++◌, length, take, drop, replicate, Some, None, refl, sym, ap, ◌∙◌, subst, arith, take-append-drop, length-drop, length-append, length-take-le}
-use Rattle.std.specs.Prelude.{IsTrue, ◌==◌, ◌↔◌, ◌&&◌, if◌then◌else◌, nat_le, slice_index}
-use Rattle.std.specs.List.{AllByRecursion}
-use Rattle.std.proofs.lemmas.Bool.Decides.{nat_tests}
-use Rattle.std.proofs.lemmas.Grind.{common_steps}
-use Rattle.std.proofs.lemmas.List.{length-replicate}
-use Rattle.std.proofs.lemmas.List.Elements.{All-from_recursion, recursion_from_All}
+use Rattle.std.specs.Prelude.{◌==◌, ◌↔◌, ◌&&◌, if◌then◌else◌}
 use Rattle.std.proofs.lemmas.List.Sums.{prefix_len-le-length}
-use Rattle.px_base.specs.CallSign.{CallSign, IsBase, IsCall, IsSpelled, is_call_char, padded}
 use Rattle.px_base.specs.CallOctets.{are_blanks, base_count, call_in, call_octets, call_of, is_spelled}
+use Rattle.px_base.proofs.Names.{IsTrue, nat_le, slice_index, AllByRecursion, nat_tests, common_steps, length-replicate, All-from_recursion, recursion_from_All, CallSign, IsBase, IsCall, IsSpelled, is_call_char, padded}
 
 -- each of these characters may stand in a call
 abbrev AllChars : List ℕ → Type 0

@@ -1,8 +1,6 @@
 -- Lemmas on the part of a call's text that gives its SSID.
 use Rattle.std.proofs.Common.{◌≡◌, ℕ, ◌+◌, ◌-◌, ◌≤◌, ◌<◌, ◌⊎◌, List, [], ◌∷◌, ◌++◌, length, take, get_or, refl, sym, ap, ◌∙◌, inl, inr, arith}
-use Rattle.std.proofs.lemmas.Bool.Decides.{nat_tests}
-use Rattle.std.proofs.lemmas.Grind.{common_steps}
-use Rattle.px_base.specs.CallSign.{SsidText, BeginsSsid, ReachesInSsid, ssid_digits}
+use Rattle.px_base.proofs.Names.{nat_tests, common_steps, SsidText, BeginsSsid, ReachesInSsid, ssid_digits}
 
 -- what an SSID's digits are, by their number
 digits_one : (n : ℕ) → n ≤ 9 → ssid_digits n ≡ (48 + n) ∷ []

@@ -1,10 +1,9 @@
 -- Lemmas on lists that are told: how they gain items and grow, and what is asked of an object outside the program.
 use Rattle.std.proofs.Common.{◌≡◌, ℕ, zero, suc, List, [], ◌∷◌, ◌++◌, take, drop, refl, sym, ap, ◌∙◌, subst, append_assoc, append-nil}
-use Rattle.std.proofs.lemmas.List.{take-append-drop}
-use Rattle.std.specs.Prelude.{Option, None, Some}
 use Rattle.px_base.specs.CallRecords.{Asks}
 use Rattle.px_base.specs.Octets.{IsFront}
 use Rattle.px_base.specs.Outside.{Gains, GainsPrefix, Grows}
+use Rattle.px_base.proofs.Names.{take-append-drop, Option, None, Some}
 
 -- what stays gains nothing
 pub Gains-none : (told : Option (List ℕ)) → Gains told told []

@@ -1,8 +1,6 @@
 -- What is asked of an object outside the program, call by call.
 use Rattle.std.proofs.Common.{◌≡◌, List, [], ◌∷◌, ◌++◌, Option, refl, sym, subst}
-use Rattle.px_base.specs.Outside.{Grows}
-use Rattle.px_base.specs.CallRecords.{Asks}
-use Rattle.px_base.proofs.Told.{Grows-trans, asks_one, asks_then}
+use Rattle.real_outside.proofs.Names.{Grows, Asks, Grows-trans, asks_one, asks_then}
 
 module _ {C : Type 0} where
   -- what follows a call

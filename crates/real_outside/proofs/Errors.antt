@@ -1,7 +1,6 @@
 -- Answers that are errors.
 use Rattle.std.proofs.Common.{◌≡◌, false, Result, Ok, Err, IsErr, IsErrAnd, refl}
-use Rattle.std.proofs.lemmas.Bool.{false≢true}
-use Rattle.std.specs.Prelude.{is_ok}
+use Rattle.real_outside.proofs.Names.{false≢true, is_ok}
 
 -- an answer that is an error isn't Ok
 pub not_ok : {T E : Type 0} (answer : Result T E) → IsErr answer → is_ok answer ≡ false

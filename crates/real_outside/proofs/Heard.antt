@@ -1,14 +1,8 @@
 -- What a poll finds where reading a stream answers so.
 use Rattle.std.proofs.Common.{◌≡◌, ◌==◌, ℕ, zero, suc, ◌≤◌, List, [], ◌∷◌, length, if◌then◌else◌, Result, Ok, Err, IfOk, IsErr, OnErr, refl, ap, ◌∙◌, arith, Bool, false}
-use Rattle.std.proofs.lemmas.Bool.{false≢true}
-use Rattle.std.proofs.lemmas.Bool.Decides.{nat_tests}
-use Rattle.px_base.specs.Polling.{turn_of}
-use Rattle.px_base.specs.declared.air.AirDown.{AirDown}
-use Rattle.px_base.specs.declared.air.Polled.{Polled}
 use Rattle.px_base.specs.declared.air.Polled.TheVariants as polled
 use Rattle.px_base.specs.declared.air.Turn.TheVariants as turn
-use Rattle.real_outside.specs.StreamCalls.{octets_read, turn_read}
-use Rattle.real_outside.specs.declared.system_error.SystemError.{SystemError}
+use Rattle.real_outside.proofs.Names.{false≢true, nat_tests, turn_of, AirDown, Polled, octets_read, turn_read, SystemError}
 
 failed_turn : (result : Result Polled AirDown) (room : List ℕ) → IsErr result → turn_of result room ≡ turn.Fail
 failed_turn (Ok found) room failed = absurd (false≢true failed)

@@ -1,11 +1,6 @@
 -- What reaches the files while a shelf keeps the octets of one, step by step.
 use Rattle.std.proofs.Common.{◌≡◌, inl, inr, ℕ, List, [], ◌∷◌, ◌++◌, Option, None, Some, Result, Ok, Err, refl}
-use Rattle.px_base.specs.Outside.{Grows}
-use Rattle.px_base.specs.CallRecords.{Asks}
-use Rattle.real_outside.specs.Shelf.Keeping.{InTurn, OnOpened, Once, Replaces, Step, out_of_memory}
-use Rattle.real_outside.specs.declared.files.file_call.FileCall.{FileCall}
-use Rattle.real_outside.specs.declared.system_error.SystemError.{SystemError}
-use Rattle.px_base.proofs.Told.{asks_as, asks_none, asks_one, asks_then}
+use Rattle.real_outside.proofs.Names.{Grows, Asks, InTurn, OnOpened, Once, Replaces, Step, out_of_memory, FileCall, SystemError, asks_as, asks_none, asks_one, asks_then}
 
 -- one call is made
 pub once :

@@ -9,3 +9,4 @@ mod Taken
 mod Wholes
 mod WriteByWrite
 mod Written
+mod Names

@@ -1,12 +1,7 @@
 -- What reaches a device while octets are moved, call by call.
 use Rattle.std.proofs.Common.{◌≡◌, inr, inl, ℕ, ◌+◌, ◌<◌, ◌≤◌, List, [], ◌∷◌, ◌++◌, length, take, Bool, true, false, Result, Ok, Err, IsErr, refl, sym, ◌∙◌, ap, subst, append_assoc, length-take-le}
-use Rattle.std.proofs.Math.Seq.{take-append-add}
-use Rattle.std.proofs.lemmas.Bool.{false≢true}
-use Rattle.std.proofs.lemmas.List.{append-nil, take-append-le}
-use borrow.Rule.Slice.PartMut.{post_of, put_mid}
-use Rattle.real_outside.specs.Disk.Devices.{FillsFrom, GoesOn, ReadsAll, all_given, moved, octets_given}
-use Rattle.real_outside.specs.declared.disk.device.DeviceCall.{DeviceCall}
 use Rattle.disk_model.specs.declared.disk.DiskFault.{DiskFault}
+use Rattle.real_outside.proofs.Names.{take-append-add, false≢true, append-nil, take-append-le, post_of, put_mid, FillsFrom, GoesOn, ReadsAll, all_given, moved, octets_given, DeviceCall}
 
 module _ (IsNext : ℕ → DeviceCall → Type 0) (all : ℕ) where
   -- whatever moves the octets that are left moves all of them behind these calls

@@ -1,16 +1,12 @@
 -- What short reads and writes come to.
 use Rattle.std.proofs.Common.{◌≡◌, inl, inr, ⊎_elim, ℕ, ◌+◌, ◌-◌, ◌<◌, ◌≤◌, List, [], ◌∷◌, ◌++◌, length, take, drop, Bool, true, Ok, Err, refl, sym, ◌∙◌, ap, subst, arith, rules, add-zero, add_assoc, length-take-le}
-use Rattle.std.proofs.Math.Seq.{take-add}
-use Rattle.std.proofs.lemmas.Bool.{cases_lt, false≢true}
-use Rattle.std.proofs.lemmas.List.{append-nil, drop-drop, places, same_lists, take_all}
 use Rattle.std.specs.List.{AllByRecursion}
 use Rattle.real_outside.specs.Disk.DeviceLaws.{IsTrueRead, octets_after}
-use Rattle.real_outside.specs.Disk.Devices.{GoesOn, IsReadOf, IsWriteOf, all_given}
 use Rattle.disk_model.specs.Disk.{Torn}
 use Rattle.disk_model.specs.Surface.{write_over}
-use Rattle.real_outside.specs.declared.disk.device.DeviceCall.{DeviceCall}
 use Rattle.real_outside.specs.declared.disk.device.DeviceCall.TheVariants as call
 use Rattle.disk_model.proofs.Writes.{get_or-write_over_outside, length-write_over, torn_by_places}
+use Rattle.real_outside.proofs.Names.{take-add, cases_lt, false≢true, append-nil, drop-drop, places, same_lists, take_all, GoesOn, IsReadOf, IsWriteOf, all_given, DeviceCall}
 
 -- octets written behind others
 pub write_over_twice : (old : List ℕ) (at : ℕ) (first second : List ℕ) → write_over (write_over old at first) (at + length first) second ≡ write_over old at (first ++ second)

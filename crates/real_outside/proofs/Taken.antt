@@ -1,10 +1,7 @@
 -- What reaches the files by a call of a device over one of them.
 use Rattle.std.proofs.Common.{◌≡◌, inl, inr, ℕ, List, [], ◌∷◌, ◌++◌, Option, None, Some, Result, Ok, Err, refl, subst}
-use Rattle.px_base.specs.CallRecords.{Asks}
-use Rattle.real_outside.specs.Disk.FileDevices.{AfterOpening, FileDeviceState, TakesFile}
 use Rattle.real_outside.specs.declared.disk.device.DeviceDown.{DeviceDown}
-use Rattle.real_outside.specs.declared.files.file_call.FileCall.{FileCall}
-use Rattle.px_base.proofs.Told.{asks_as, asks_then}
+use Rattle.real_outside.proofs.Names.{Asks, AfterOpening, FileDeviceState, TakesFile, FileCall, asks_as, asks_then}
 
 module _ {S F T : Type 0} (number : F → ℕ) (before now : FileDeviceState S F) (result : Result T DeviceDown)
     (P : ℕ → List FileCall → Type 0) where

@@ -1,13 +1,11 @@
 -- Lemmas on reading all that a reader has left, up to a limit.
 use Rattle.std.proofs.Common.{◌≡◌, ℕ, ◌+◌, ◌<◌, ◌≤◌, Bool, true, false, min, List, [], ◌++◌, length, take, Option, None, Some, IfSome, Result, Ok, Err, refl, ap, ◌∙◌, inl, inr, arith}
 use Rattle.std.specs.Option.{option_map}
-use Rattle.std.specs.Prelude.{OnOk, nat_le}
 use Rattle.std.specs.declared.io.Error.{Error}
-use Rattle.std.proofs.lemmas.List.{length-take, take_all}
-use Rattle.std.proofs.lemmas.Bool.Decides.{nat_tests}
 use Rattle.px_base.specs.declared.shelf.ShelfRefusal.TheVariants as refusal
 use Rattle.real_outside.specs.Shelf.Folder.{IsReadingAnswer}
 use Rattle.px_base.specs.Shelves.{AnswersOfAll, LoadResult, load_answer}
+use Rattle.real_outside.proofs.Names.{OnOk, nat_le, length-take, take_all, nat_tests}
 
 -- Where one octet more than may come was asked for, what came is answered as all there is.
 front_answer :

@@ -1,11 +1,7 @@
 -- Octets that are written to a file, write by write.
 use Rattle.std.proofs.Common.{◌≡◌, inl, inr, ℕ, ◌+◌, ◌<◌, List, [], ◌∷◌, ◌++◌, length, drop, Result, Ok, Err, refl, sym, subst, append_assoc}
-use Rattle.std.proofs.lemmas.List.{append-nil, drop-drop}
-use Rattle.real_outside.specs.Files.{WritesOnce}
-use Rattle.real_outside.specs.Shelf.Keeping.{WritesFrom, WritesSome}
-use Rattle.real_outside.specs.declared.files.file_call.FileCall.{FileCall}
 use Rattle.real_outside.specs.declared.files.file_call.FileCall.TheVariants as call
-use Rattle.real_outside.specs.declared.system_error.SystemError.{SystemError}
+use Rattle.real_outside.proofs.Names.{append-nil, drop-drop, WritesOnce, WritesFrom, WritesSome, FileCall, SystemError}
 
 -- whatever writes the octets that are left writes all of them behind these calls
 abbrev pub Leads : List ℕ → ℕ → ℕ → List FileCall → Type 0

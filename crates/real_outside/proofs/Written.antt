@@ -1,8 +1,8 @@
 -- What the calls that write octets come to.
 use Rattle.std.proofs.Common.{◌≡◌, inl, inr, ℕ, ◌+◌, ◌<◌, List, [], ◌∷◌, ◌++◌, length, take, drop, Bool, false, Option, None, Some, Ok, Err, refl, sym, ◌∙◌, ap, subst, arith, append_assoc}
-use Rattle.std.proofs.lemmas.List.{drop-drop, drop-take, drop_all, take-append-drop, take-take}
-use Rattle.real_outside.specs.StreamCalls.{Writes, WritesSome}
+use Rattle.real_outside.specs.StreamCalls.{WritesSome}
 use Rattle.real_outside.specs.declared.stream.StreamCall.{StreamCall}
+use Rattle.real_outside.proofs.Names.{drop-drop, drop-take, drop_all, take-append-drop, take-take, Writes}
 
 -- whatever writes the octets behind so many, after so many writes, writes all of them behind these calls
 abbrev pub Leads : List ℕ → ℕ → ℕ → List StreamCall → Type 0

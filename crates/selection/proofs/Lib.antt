@@ -3,3 +3,4 @@ pub mod ReadLemmas
 mod StepLemmas
 mod TokenLemmas
 mod TruthLemmas
+mod Names

@@ -1,22 +1,7 @@
 -- The walk over tokens: what it finds is there, and what is there is found.
 use Rattle.std.proofs.Common.{◌≡◌, ◌≢◌, ℕ, zero, suc, ◌+◌, ◌-◌, ◌<◌, ◌≤◌, List, [], ◌∷◌, ◌++◌, length, drop, get_or, Option, Some, None, Result, Ok, Err, refl, sym, ap, ◌∙◌, subst, arith, length-append, append_assoc, append-nil, lit<}
-use Rattle.std.specs.Prelude.{IsOk}
-use Rattle.std.specs.Result.{result_unwrap_or}
-use Rattle.std.proofs.lemmas.List.{drop_at}
-use Rattle.std.proofs.lemmas.List.Elements.{All-drop}
-use Rattle.px_base.specs.Octets.{IsOctets}
-use Rattle.selection.specs.declared.fault.SelFault.{SelFault}
-use Rattle.selection.specs.declared.fault.SelFault.TheVariants.{Empty, Many, BadOp, Cut, Few, Left}
-use Rattle.selection.specs.declared.token.Relation.TheVariants.{EqualTo}
-use Rattle.selection.specs.declared.token.Operator.{Operator}
-use Rattle.selection.specs.declared.token.Operator.TheVariants.{And, Or, Not}
-use Rattle.selection.specs.declared.token.TokenFault.{TokenFault}
-use Rattle.selection.specs.declared.token.TokenFault.TheVariants.{Unknown, Ended}
-use Rattle.selection.specs.Layout.{ComparisonValue, Tree, Compare, NotOf, AndOf, OrOf, IsTree, Postfix, AreTrees, comparison_text, operator_octet, operands_of, tree_text, trees_text, tokens_of, tokens_of_trees, most_tokens}
-use Rattle.selection.specs.Faults.{TreesThen, FoundAt, FirstFault, StartsUnknown, StartsCut, StartsLacking}
 use Rattle.selection.specs.Laws.{IsOneTree, IsOneFault, ReadsBack}
-use Rattle.selection.specs.Reading.{TokenValue, Comparing, Operating, token_len, token_in, operated, trees_after, fault_at, with_trees, step_by, go_on, trees_from, one_of, tree_in}
-use Rattle.selection.specs.Values.{tree_of}
+use Rattle.selection.proofs.Names.{IsOk, result_unwrap_or, drop_at, All-drop, IsOctets, SelFault, Empty, Many, BadOp, Cut, Few, Left, EqualTo, Operator, And, Or, Not, TokenFault, Unknown, Ended, ComparisonValue, Tree, Compare, NotOf, AndOf, OrOf, IsTree, Postfix, AreTrees, comparison_text, operator_octet, operands_of, tree_text, trees_text, tokens_of, tokens_of_trees, most_tokens, TreesThen, FoundAt, FirstFault, StartsUnknown, StartsCut, StartsLacking, TokenValue, Comparing, Operating, token_len, token_in, operated, trees_after, fault_at, with_trees, step_by, go_on, trees_from, one_of, tree_in, tree_of}
 use Rattle.selection.proofs.StepLemmas.{left_fault, no_operands}
 use Rattle.selection.proofs.TokenLemmas.{token_text, IsToken, TokenAt, length-token_text, token_found, token_in-comparison, token_in-operator, token_in-unknown, token_in-cut}
 

@@ -1,15 +1,6 @@
 -- How many operands stand after a token.
 use Rattle.std.proofs.Common.{◌≡◌, ℕ, zero, suc, ◌+◌, ◌-◌, ◌<◌, ◌≤◌, List, [], ◌∷◌, length, take, drop, Option, Some, None, Result, Ok, Err, refl, sym, ap, subst, ◌∙◌, arith}
-use Rattle.std.specs.Prelude.{IsOk}
-use Rattle.std.proofs.lemmas.List.{drop-drop, take_rest}
-use Rattle.selection.specs.declared.fault.SelFault.{SelFault}
-use Rattle.selection.specs.declared.fault.SelFault.TheVariants.{Empty, Many, Few, Left}
-use Rattle.selection.specs.declared.token.Operator.{Operator}
-use Rattle.selection.specs.declared.token.Operator.TheVariants.{And, Or, Not}
-use Rattle.selection.specs.declared.token.TokenFault.{TokenFault}
-use Rattle.selection.specs.Layout.{Tree, NotOf, AndOf, OrOf, operands_of}
-use Rattle.selection.specs.Reading.{TokenValue, token_len, token_in, operated, trees_after, with_trees, step_by, go_on, trees_from, one_of, tree_in}
-use Rattle.selection.specs.Values.{CountsAs, LeavesAs, StepsAs}
+use Rattle.selection.proofs.Names.{IsOk, drop-drop, take_rest, SelFault, Empty, Many, Few, Left, Operator, And, Or, Not, TokenFault, Tree, NotOf, AndOf, OrOf, operands_of, TokenValue, token_len, token_in, operated, trees_after, with_trees, step_by, go_on, trees_from, one_of, tree_in, CountsAs, LeavesAs, StepsAs}
 
 pub operated_as : (operator : Operator) (trees : List Tree) (count : ℕ) → length trees ≡ count → operands_of operator ≤ count
     → LeavesAs (Some (count + 1 - operands_of operator)) (operated operator trees)

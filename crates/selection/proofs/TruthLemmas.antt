@@ -1,18 +1,7 @@
 -- Which operands hold after each token.
 use Rattle.std.proofs.Common.{◌≡◌, ℕ, zero, suc, ◌+◌, ◌-◌, ◌<◌, ◌≤◌, List, [], ◌∷◌, ◌++◌, length, take, drop, Bool, Option, Some, None, Result, Ok, Err, refl, sym, ap, subst, ◌∙◌, arith, length-append}
-use Rattle.std.specs.Prelude.{IsOk}
-use Rattle.std.specs.Result.{result_unwrap_or}
-use Rattle.std.proofs.lemmas.List.{drop-drop, take_rest}
 use Rattle.pfh_items.specs.Layout.{ItemValue}
-use Rattle.selection.specs.declared.fault.SelFault.{SelFault}
-use Rattle.selection.specs.declared.token.Token.{Token}
-use Rattle.selection.specs.declared.token.Operator.{Operator}
-use Rattle.selection.specs.declared.token.Operator.TheVariants.{And, Or, Not}
-use Rattle.selection.specs.declared.token.TokenFault.{TokenFault}
-use Rattle.selection.specs.Layout.{Tree, Compare, NotOf, AndOf, OrOf, operands_of}
-use Rattle.selection.specs.Meaning.{holds}
-use Rattle.selection.specs.Reading.{TokenValue, Comparing, Operating, token_len, token_in, operated, trees_after, with_trees, step_by, go_on, trees_from, one_of, tree_in}
-use Rattle.selection.specs.Values.{ReadsAs, token_value, operands_needed, tree_of, truths_of}
+use Rattle.selection.proofs.Names.{IsOk, result_unwrap_or, drop-drop, take_rest, SelFault, Token, Operator, And, Or, Not, TokenFault, Tree, Compare, NotOf, AndOf, OrOf, operands_of, holds, TokenValue, Comparing, Operating, token_len, token_in, operated, trees_after, with_trees, step_by, go_on, trees_from, one_of, tree_in, ReadsAs, token_value, operands_needed, tree_of, truths_of}
 use Rattle.selection.proofs.StepLemmas.{none_left, nonempty, ended}
 
 pub length-truths_of : (items : List ItemValue) (trees : List Tree) → length (truths_of items trees) ≡ length trees

@@ -1,37 +1,7 @@
 -- Each event of a server has one step: a server comes to send nothing by one list of frames, and the ends of its links
 -- stay such as frames and ticks bring about.
 use Rattle.std.proofs.Common.{◌≡◌, ℕ, zero, suc, List, [], ◌∷◌, set, map, Bool, Option, None, Some, rules, refl, sym, ◌∙◌, ap, subst, arith}
-use Rattle.std.proofs.lemmas.Grind.{common_steps}
-use Rattle.std.specs.Prelude.{slice_get}
-use Rattle.std.specs.Option.{option_map}
-use Rattle.std.proofs.lemmas.Option.{none-some, same_Some}
-use Rattle.px_base.specs.CallSign.{CallSign}
-use Rattle.ax25_frames.specs.FrameText.{FrameValue}
-use Rattle.ax25_link.specs.Calls.{after_push}
-use Rattle.ax25_link.specs.Ends.{IsEnd, LinkEnd}
-use Rattle.ax25_link.specs.Sending.{Sending, next_sending}
-use Rattle.ax25_link.specs.Window.{Window}
-use Rattle.ax25_link.specs.declared.state.Heard.{Heard}
-use Rattle.ax25_link.proofs.Offered.{after_frame-IsEnd, after_push-IsEnd, after_tick-IsEnd, answering_end-IsEnd}
-use Rattle.ftl0_packets.specs.Layout.{Item, packet_text}
-use Rattle.ftl0_session.specs.Lists.Lists.{CallerList}
-use Rattle.file_store.specs.Command.{after_all}
-use Rattle.file_store.specs.Store.{Store}
-use Rattle.node.specs.Events.{NodeEvent}
-use Rattle.ftl0_session.specs.Uploads.Failures.{Failure}
-use Rattle.ftl0_packets.specs.Items.{texts}
-use Rattle.ftl0_session.specs.Table.{Row, State, row_at}
-use Rattle.ftl0_session.specs.Run.{session_over}
-use Rattle.ftl0_server.specs.Connection.Connected.{Connected}
-use Rattle.ftl0_server.specs.Connection.Hearing.{parts_as, ticking, with_end}
-use Rattle.ftl0_server.specs.Connection.Laws.{QueuedLaw}
-use Rattle.ftl0_server.specs.Connection.Taking.{Progress, queued, queuing, taking}
-use Rattle.ftl0_server.specs.Fits.{SlotFits, SlotsFit}
-use Rattle.ftl0_server.specs.Server.{IsSilent, Refused, Server, ServerHappened, ServerSends, hearing_at, hearing_by, hearing_stranger, sends_by, settled}
-use Rattle.ftl0_server.specs.ServerStep.{Empties, happening, stepped}
-use Rattle.ftl0_server.specs.Slots.{Slot, all_freed, connected, free, leaving, left_by, places_next, slot_next, slot_sends, slot_ticking}
-use Rattle.ftl0_server.proofs.Offered.{by_stray, emptied, empties-silent, first_none, queuing-holds, server_left, silent-settled}
-use Rattle.server_laws.specs.Steps.{AreQueued, OneStepLaw, SomeStepLaw}
+use Rattle.server_laws.proofs.Names.{common_steps, slice_get, option_map, none-some, same_Some, CallSign, FrameValue, after_push, IsEnd, LinkEnd, Sending, next_sending, Window, Heard, after_frame-IsEnd, after_push-IsEnd, after_tick-IsEnd, answering_end-IsEnd, Item, packet_text, CallerList, after_all, Store, NodeEvent, Failure, texts, Row, State, row_at, session_over, Connected, parts_as, ticking, with_end, QueuedLaw, Progress, queued, queuing, taking, SlotFits, SlotsFit, IsSilent, Refused, Server, ServerHappened, ServerSends, hearing_at, hearing_by, hearing_stranger, sends_by, settled, Empties, happening, stepped, Slot, all_freed, connected, free, leaving, left_by, places_next, slot_next, slot_sends, slot_ticking, by_stray, emptied, empties-silent, first_none, queuing-holds, server_left, silent-settled, AreQueued, OneStepLaw, SomeStepLaw}
 use Rattle.server_laws.proofs.QueuedLemmas.{all-stay, freed-queued, heard-queued, left-queued, places-sent, queued-set, ticked-queued}
 
 -- ---- one list of frames

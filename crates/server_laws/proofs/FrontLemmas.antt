@@ -1,25 +1,6 @@
 -- What an event begins in which a write fails is a front of what it does where none does.
 use Rattle.std.proofs.Common.{ℕ, List, [], ◌++◌, Option, None, Some, refl}
-use Rattle.std.specs.Prelude.{slice_get}
-use Rattle.ax25_frames.specs.FrameText.{FrameValue}
-use Rattle.ax25_link.specs.declared.state.Heard.{Heard}
-use Rattle.ax25_link.specs.declared.state.Heard.TheVariants.{Bytes}
-use Rattle.ax25_link.specs.Ends.{LinkEnd}
-use Rattle.ax25_link.specs.Rows.{after_frame, heard_of}
-use Rattle.ftl0_packets.specs.Reading.{packets_of}
-use Rattle.file_store.specs.Store.{Store}
-use Rattle.ftl0_session.specs.Lists.Lists.{CallerList}
-use Rattle.ftl0_session.specs.Run.{session_over}
-use Rattle.ftl0_session.specs.Uploads.Failures.{Failure, NoReadFails}
-use Rattle.ftl0_server.specs.Connection.Connected.{Connected, caller_of}
-use Rattle.ftl0_server.specs.Connection.Hearing.{parts_as, parts_of_frame}
-use Rattle.ftl0_server.specs.Connection.Taking.{Progress, queued}
-use Rattle.ftl0_server.specs.Server.{Server, ServerHappened, hearing_at, hearing_by}
-use Rattle.ftl0_server.specs.ServerStep.{happening}
-use Rattle.ftl0_server.specs.Slots.{Slot, connected, place_of}
-use Rattle.ftl0_server.proofs.Offered.{Begins, IsFront, queued-keeps, taking-begins}
-use Rattle.node.specs.Events.{NodeEvent, hears, ticks}
-use Rattle.server_laws.specs.Misses.{FrontOfEventLaw, begun_in}
+use Rattle.server_laws.proofs.Names.{slice_get, FrameValue, Heard, Bytes, LinkEnd, after_frame, heard_of, packets_of, Store, CallerList, session_over, Failure, NoReadFails, Connected, caller_of, parts_as, parts_of_frame, Progress, queued, Server, ServerHappened, hearing_at, hearing_by, happening, Slot, connected, place_of, Begins, IsFront, queued-keeps, taking-begins, NodeEvent, hears, ticks, FrontOfEventLaw, begun_in}
 
 -- what is due adds no commands to those of the packets
 queued-begins : (store : Store) (some all : List Failure) (before other : Progress) → Begins before other

@@ -1,44 +1,20 @@
 -- What a frame makes of a connection goes by entries.
-use Rattle.std.proofs.lemmas.Grind.{common_steps}
 use Rattle.std.proofs.Common.{◌≡◌, ℕ, zero, suc, ◌≤◌, min, List, [], ◌∷◌, ◌++◌, length, take, Bool, true, false, Option, None, Some, refl, sym, ap, subst, ◌∙◌, append_assoc, append-nil, arith}
-use Rattle.std.specs.Prelude.{nat_le, nat_lt, if◌then◌else◌, ⊤, ◌==◌, ◌&&◌, ◌||◌}
-use Rattle.std.specs.Option.{option_map}
-use Rattle.std.specs.List.{AllByRecursion}
-use Rattle.std.proofs.lemmas.List.{length-take, take_all}
+use Rattle.std.specs.Prelude.{if◌then◌else◌, ◌==◌, ◌&&◌, ◌||◌}
 use Rattle.std.proofs.lemmas.List.Concat.{flat_map-append}
-use Rattle.px_base.specs.CallSign.{CallSign}
-use Rattle.ax25_frames.specs.FrameText.{FrameValue}
 use Rattle.ax25_frames.specs.declared.control.Control.{Control}
 use Rattle.ax25_frames.specs.declared.control.Control.TheVariants.{I, Rr, Rnr, Rej, Sabm, Disc, Dm, Ua, Frmr, Ui}
-use Rattle.ax25_link.specs.Calls.{Doing, DoesAll, abandon, after_doing, after_push, push}
-use Rattle.ax25_link.specs.declared.state.Heard.{Heard}
-use Rattle.ax25_link.specs.declared.state.Heard.TheVariants.{Nothing, Opened, Reopened, Bytes, Closed}
 use Rattle.ax25_link.specs.declared.state.LinkState.{LinkState}
 use Rattle.ax25_link.specs.declared.state.LinkState.TheVariants.{Up}
 use Rattle.ax25_link.specs.Acknowledging.{Meaning, acknowledging, applying, bad, good, is_bad, is_good, meaning_of, stale, with_timer_anew}
-use Rattle.ax25_link.specs.Ends.{LinkEnd, free_octets, high, ready}
 use Rattle.ax25_link.specs.Frames.{receive_number}
-use Rattle.ax25_link.specs.Rows.{Outcome, accepting, after_frame, heard_of, information_row, is_call, numbered_row, out_of_sequence, refusing, replying, row_of_state, sending_again, supervisory_row, up_row, with_busy}
-use Rattle.ax25_link.specs.Window.{Window}
-use Rattle.ftl0_packets.specs.Items.{texts}
-use Rattle.ftl0_packets.specs.Layout.{Item, data_end, data_part, packet_text}
-use Rattle.ftl0_packets.specs.Reading.{packets_of}
 use Rattle.ftl0_packets.proofs.SplitLemmas.{texts-append}
-use Rattle.packet_link.specs.Queuing.{enough_free, fits, on_due}
-use Rattle.file_store.specs.Command.{Command, after_all}
-use Rattle.file_store.specs.Store.{Store}
-use Rattle.file_store.proofs.Offered.{after_all-append}
 use Rattle.ftl0_session.specs.Downloads.Table as download
 use Rattle.ftl0_session.specs.Downloads.Sending as due_part
-use Rattle.ftl0_session.specs.Lists.Lists.{CallerList}
-use Rattle.ftl0_session.specs.Run.{Session, session_over}
-use Rattle.ftl0_session.specs.Table.{DuePacket, Row, State, download_part, in_session, next_due}
-use Rattle.ftl0_server.specs.Connection.Connected.{Connected, caller_of}
-use Rattle.ftl0_server.specs.Connection.Hearing.{parts_as, parts_of_frame, progressed, rest_of_frame}
 use Rattle.ftl0_server.specs.Connection.Taking as taken
-use Rattle.ftl0_server.specs.Connection.Taking.{Progress, after_due, queued, queuing, resting, taking}
 use Rattle.ftl0_server.specs.Entries as entry
 use Rattle.ftl0_server.specs.Entries.{GoesBy, HeardBy, HearingLaw, IsNotLost, SessionEntry, after_row, commands_in, entries_due, entries_taken, items_in, packets_told, row_of, said_in, took, lost}
+use Rattle.server_laws.proofs.Names.{common_steps, nat_le, nat_lt, ⊤, option_map, AllByRecursion, length-take, take_all, CallSign, FrameValue, Doing, DoesAll, abandon, after_doing, after_push, push, Heard, Nothing, Opened, Reopened, Bytes, Closed, LinkEnd, free_octets, high, ready, Outcome, accepting, after_frame, heard_of, information_row, is_call, numbered_row, out_of_sequence, refusing, replying, row_of_state, sending_again, supervisory_row, up_row, with_busy, Window, texts, Item, data_end, data_part, packet_text, packets_of, enough_free, fits, on_due, Command, after_all, Store, after_all-append, CallerList, Session, session_over, DuePacket, Row, State, download_part, in_session, next_due, Connected, caller_of, parts_as, parts_of_frame, progressed, rest_of_frame, Progress, after_due, queued, queuing, resting, taking}
 
 -- ---- doings
 

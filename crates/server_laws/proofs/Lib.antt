@@ -7,3 +7,4 @@ mod QueuedLemmas
 mod ReceivesLemmas
 mod RowLemmas
 mod StepLemmas
+mod Names

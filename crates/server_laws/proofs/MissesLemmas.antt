@@ -1,38 +1,10 @@
 -- An event that tells of no read that failed is what it is where none fails.
 use Rattle.std.proofs.Common.{◌≡◌, ⊎_elim, ℕ, zero, suc, ◌+◌, ◌≤◌, List, [], ◌∷◌, ◌++◌, Bool, true, false, ◌||◌, Option, None, Some, refl, sym, ap, ◌∙◌, arith}
-use Rattle.std.specs.Prelude.{Ok, nat_le, if◌then◌else◌, slice_get}
-use Rattle.std.proofs.lemmas.Option.{none-some, same_Some}
+use Rattle.std.specs.Prelude.{if◌then◌else◌}
 use Rattle.std.proofs.Math.Bool.{or-false}
-use Rattle.px_base.specs.CallSign.{CallSign}
-use Rattle.ax25_frames.specs.FrameText.{FrameValue}
-use Rattle.ax25_link.specs.Calls.{after_push}
-use Rattle.ax25_link.specs.declared.state.Heard.{Heard}
-use Rattle.ax25_link.specs.declared.state.Heard.TheVariants.{Bytes}
-use Rattle.ax25_link.specs.Ends.{LinkEnd, free_octets}
-use Rattle.ax25_link.specs.Rows.{after_frame, heard_of}
-use Rattle.ax25_link.specs.Window.{Window}
-use Rattle.ftl0_packets.specs.Items.{texts}
-use Rattle.ftl0_packets.specs.Layout.{Item, data_end}
-use Rattle.ftl0_packets.specs.Reading.{packets_of}
-use Rattle.packet_link.specs.Queuing.{enough_free, fits, on_due}
-use Rattle.file_store.specs.Command.{after_all}
-use Rattle.file_store.specs.Store.{Store, entry_of}
-use Rattle.ftl0_session.specs.Lists.Lists.{CallerList}
-use Rattle.ftl0_session.specs.Run.{Session, session_over}
-use Rattle.ftl0_session.specs.Table.{DuePacket, Row, by_upload, failed_reads_told, next_due, row_at, session_row, upload_part}
-use Rattle.ftl0_session.specs.Uploads.Failures.{Failure, NoReadFails, failed_reads, read_fails, write_fails}
 use Rattle.ftl0_session.specs.Uploads.Session as upload
-use Rattle.ftl0_session.specs.Uploads.Session.{is_all}
 use Rattle.ftl0_session.proofs.WorkingLemmas.{writes-behind, writes-unlisted}
-use Rattle.ftl0_server.specs.Connection.Connected.{Connected, caller_of}
-use Rattle.ftl0_server.specs.Connection.Hearing.{hearing, parts_as, parts_of_frame, progressed, rest_of_frame}
-use Rattle.ftl0_server.specs.Connection.Taking.{Progress, after_due, after_row, failing_at, giving_up, queued, queuing, taking, taking_row}
-use Rattle.ftl0_server.specs.Server.{Server, heard_at, hearing_at, hearing_by}
-use Rattle.ftl0_server.specs.ServerStep.{happening}
-use Rattle.ftl0_server.specs.Slots.{Slot, connected, place_of}
-use Rattle.node.specs.Events.{NodeEvent, hears, ticks}
-use Rattle.server_laws.specs.Misses.{MissesLaw}
-use Rattle.server_laws.specs.Rows.{DueReadsLaw, ReadsLaw, failed_due, failed_row}
+use Rattle.server_laws.proofs.Names.{Ok, nat_le, slice_get, none-some, same_Some, CallSign, FrameValue, after_push, Heard, Bytes, LinkEnd, free_octets, after_frame, heard_of, Window, texts, Item, data_end, packets_of, enough_free, fits, on_due, after_all, Store, entry_of, CallerList, Session, session_over, DuePacket, Row, by_upload, failed_reads_told, next_due, row_at, session_row, upload_part, Failure, NoReadFails, failed_reads, read_fails, write_fails, is_all, Connected, caller_of, hearing, parts_as, parts_of_frame, progressed, rest_of_frame, Progress, after_due, after_row, failing_at, giving_up, queued, queuing, taking, taking_row, Server, heard_at, hearing_at, hearing_by, happening, Slot, connected, place_of, NodeEvent, hears, ticks, MissesLaw, DueReadsLaw, ReadsLaw, failed_due, failed_row}
 
 -- none of both, where there are none together
 both-none : (some more : ℕ) → some + more ≡ 0 → (some ≡ 0) × (more ≡ 0)

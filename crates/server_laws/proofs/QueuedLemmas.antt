@@ -1,25 +1,7 @@
 -- Between the events of a server all that is due was queued, as far as there was room.
-use Rattle.std.proofs.lemmas.Grind.{common_steps}
 use Rattle.std.proofs.Common.{◌≡◌, ℕ, zero, suc, ◌-◌, List, [], ◌∷◌, ◌++◌, length, set, drop, map, Bool, true, false, Option, None, Some, refl, ap, subst, take-append-drop, arith}
 use Rattle.std.specs.Prelude.{if◌then◌else◌}
-use Rattle.std.specs.Option.{option_map}
-use Rattle.std.proofs.lemmas.List.{drop-append-le}
-use Rattle.std.proofs.lemmas.Option.{none-some, same_Some}
-use Rattle.ax25_link.specs.Ends.{Farewell, IsEnd, LinkEnd, Reply, free_octets, held, most_held}
-use Rattle.ax25_link.specs.Sending.{Sending, after_new, last_sending, later_sending, most_information, next_piece, next_sending, sending_after, sends_again, sends_new, sends_reply}
-use Rattle.ax25_link.specs.Window.{Window}
-use Rattle.ax25_link.proofs.Offered.{after_new-HasPiece, concat-append_one}
-use Rattle.file_store.specs.Command.{after_all}
-use Rattle.file_store.specs.Store.{Store}
-use Rattle.ftl0_session.specs.Uploads.Failures.{Failure}
-use Rattle.ftl0_session.specs.Table.{State, due_at}
-use Rattle.ftl0_server.specs.Connection.Connected.{Connected}
-use Rattle.ftl0_server.specs.Connection.Hearing.{ticking, with_end}
-use Rattle.ftl0_server.specs.Connection.Laws.{IsQueued, QueuedLaw}
-use Rattle.ftl0_server.specs.Connection.Taking.{Progress, queued}
-use Rattle.ftl0_server.specs.Fits.{SlotFits, SlotsFit}
-use Rattle.ftl0_server.specs.Slots.{PlacesSend, Slot, SlotSends, all_freed, connected, first_of, free, leaving, left_by, places_next, slot_next, slot_sends, slot_ticking}
-use Rattle.server_laws.specs.Steps.{AreQueued, SlotIsQueued}
+use Rattle.server_laws.proofs.Names.{common_steps, option_map, drop-append-le, none-some, same_Some, Farewell, IsEnd, LinkEnd, Reply, free_octets, held, most_held, Sending, after_new, last_sending, later_sending, most_information, next_piece, next_sending, sending_after, sends_again, sends_new, sends_reply, Window, after_new-HasPiece, concat-append_one, after_all, Store, Failure, State, due_at, Connected, ticking, with_end, IsQueued, QueuedLaw, Progress, queued, SlotFits, SlotsFit, PlacesSend, Slot, SlotSends, all_freed, connected, first_of, free, leaving, left_by, places_next, slot_next, slot_sends, slot_ticking, AreQueued, SlotIsQueued}
 
 -- ---- whether anything is due is the state's to tell
 

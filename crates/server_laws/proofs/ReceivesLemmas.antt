@@ -2,47 +2,15 @@
 use Rattle.std.proofs.Common.{◌≡◌, ℕ, suc, List, [], ◌∷◌, ◌++◌, length, refl, ap, sym, subst, ◌∙◌}
 use Rattle.std.proofs.Common.{arith, Bool, true, Option, None, Some}
 use Rattle.std.proofs.lemmas.Bool.{cond_both}
-use Rattle.std.proofs.lemmas.Bool.Decides.{nat_tests}
-use Rattle.std.proofs.lemmas.Option.{same_Some}
-use Rattle.std.specs.Prelude.{◌/◌, ◌*◌, take}
-use Rattle.std.specs.Option.{option_map}
-use Rattle.px_base.specs.CallSign.{CallSign, IsCall}
-use Rattle.ax25_frames.specs.FrameText.{FrameValue}
-use Rattle.ax25_link.specs.Calls.{after_push}
-use Rattle.ax25_link.specs.declared.state.Heard.{Heard}
-use Rattle.ax25_link.specs.declared.state.Heard.TheVariants.{Nothing, Opened, Reopened, Bytes, Closed}
-use Rattle.ax25_link.specs.Ends.{LinkEnd, free_octets}
-use Rattle.ax25_link.specs.Rows.{after_frame, heard_of}
-use Rattle.ax25_link.specs.Window.{Window}
-use Rattle.ftl0_packets.specs.Items.{texts}
-use Rattle.ftl0_packets.specs.Layout.{Item}
-use Rattle.ftl0_packets.specs.Reading.{packets_of}
-use Rattle.packet_link.specs.Queuing.{fits}
+use Rattle.std.specs.Prelude.{◌/◌, ◌*◌}
 use Rattle.packet_link.proofs.Queuing.{filling-keeps}
-use Rattle.file_entries.specs.Follows.{AreOf, FollowsBy, IsOwnEntry}
 use Rattle.file_entries.specs.IsStore.{IsStore}
 use Rattle.file_entries.proofs.Offered.{follows_law}
-use Rattle.file_store.specs.Command.{AreAllowed, Command, after, after_all, begin}
-use Rattle.file_store.specs.Command.{whole_grows}
-use Rattle.file_store.specs.Store.{Entry, Store, entry_of, new_entry}
-use Rattle.file_store.proofs.Offered.{AreAllowed-split, after_all-append, find-push, find_past, grows-after, has_number}
 use Rattle.ftl0_session.specs.Downloads.Sending as due
 use Rattle.ftl0_session.specs.Downloads.Table as download
-use Rattle.ftl0_session.specs.Lists.Lists.{CallerList}
-use Rattle.ftl0_session.specs.Run.{Session, session_over}
-use Rattle.ftl0_session.specs.Table.{DuePacket, Row, State, download_part, downloading}
-use Rattle.ftl0_session.specs.Table.{due_at, in_session, session_row, state_by}
-use Rattle.ftl0_session.specs.Uploads.Failures.{Failure, read_fails, write_fails}
-use Rattle.ftl0_session.proofs.Offered.{OfUploads, if-there, session-case, upload-case}
 use Rattle.ftl0_session.specs.Uploads.Session as upload
-use Rattle.ftl0_session.specs.Uploads.Session.{is_theirs}
 use Rattle.ftl0_session.proofs.uploads.UploadRows.{theirs-decides}
-use Rattle.ftl0_server.specs.Connection.Connected.{Connected, caller_of}
-use Rattle.ftl0_server.specs.Connection.Hearing.{hearing, parts_as, parts_of_frame}
-use Rattle.ftl0_server.specs.Connection.Taking.{Progress, after_due, after_row, failing_at, giving_up, queued, queuing}
-use Rattle.ftl0_server.specs.Connection.Taking.{taking}
-use Rattle.ftl0_server.proofs.Offered.{queued-keeps}
-use Rattle.server_laws.specs.Rows.{ReceivesAfter, ReceivesBehind, ReceivesHeard, ReceivesLaw, ReceivesOwn}
+use Rattle.server_laws.proofs.Names.{nat_tests, same_Some, take, option_map, CallSign, IsCall, FrameValue, after_push, Heard, Nothing, Opened, Reopened, Bytes, Closed, LinkEnd, free_octets, after_frame, heard_of, Window, texts, Item, packets_of, fits, AreOf, FollowsBy, IsOwnEntry, AreAllowed, Command, after, after_all, begin, whole_grows, Entry, Store, entry_of, new_entry, AreAllowed-split, after_all-append, find-push, find_past, grows-after, has_number, CallerList, Session, session_over, DuePacket, Row, State, download_part, downloading, due_at, in_session, session_row, state_by, Failure, read_fails, write_fails, OfUploads, if-there, session-case, upload-case, is_theirs, Connected, caller_of, hearing, parts_as, parts_of_frame, Progress, after_due, after_row, failing_at, giving_up, queued, queuing, taking, queued-keeps, ReceivesAfter, ReceivesBehind, ReceivesHeard, ReceivesLaw, ReceivesOwn}
 use Rattle.server_laws.proofs.RowLemmas.{commands_own, own-grow}
 
 -- ---- behind a row

@@ -1,26 +1,14 @@
 -- Whose files the commands of a row are of, and what a read that fails changes.
 use Rattle.std.proofs.Common.{◌≡◌, ◌⊎◌, inl, inr, ⊎_elim, ℕ, zero, suc, List, [], ◌∷◌, ◌++◌, length, map, take, drop, refl, ap, sym, ◌∙◌, subst, Bool, true, false, not, Option, None, Some}
-use Rattle.std.proofs.lemmas.Bool.Decides.{eqb_tells}
-use Rattle.std.specs.Prelude.{Ok, Err, Result, find, if◌then◌else◌, nat_lt, ◌==◌, ◌&&◌, ◌/◌}
-use Rattle.std.specs.List.{list_all}
-use Rattle.std.specs.Option.{option_map, option_or}
-use Rattle.px_base.specs.CallSign.{CallSign}
-use Rattle.ftl0_packets.specs.Layout.{Item, PacketValue, dir_long_cmd, dir_short_cmd, dl_error_resp, select_cmd}
+use Rattle.std.specs.Prelude.{if◌then◌else◌, ◌==◌, ◌&&◌, ◌/◌}
 use Rattle.selection.specs.Layout.{Tree}
 use Rattle.selection.specs.Reading.{tree_in}
 use Rattle.selection.specs.declared.fault.SelFault.{SelFault}
-use Rattle.file_entries.specs.Follows.{AreOf, IsOf, IsOwnEntry}
-use Rattle.file_store.specs.Command.{Command, after, changed, drop_entry, grow, grown, grows, last_grow, seal}
-use Rattle.file_store.specs.Store.{Entry, Holding, Store, entry_of}
-use Rattle.file_store.proofs.Offered.{has_number}
 use Rattle.ftl0_session.specs.Downloads.Sending as due
 use Rattle.ftl0_session.specs.Downloads.Table as download
 use Rattle.ftl0_session.specs.Downloads.Table.{DownloadRow, Due, files_row, has_file, listed_files, long_due, refused_row, short_due, tree_row}
-use Rattle.ftl0_session.specs.Lists.Lists.{CallerList}
-use Rattle.ftl0_session.specs.Table.{State, aborting, command, download_part, download_row, in_session, receiving, row_among, session_row, state_by, upload_part, upload_row}
-use Rattle.ftl0_session.proofs.Offered.{OfUploads, if-there, session-case, upload-case}
 use Rattle.ftl0_session.specs.Uploads.Session as upload
-use Rattle.server_laws.specs.Rows.{CallerLaw, DueReadsLaw, ReadsLaw, ReceivesOwn, TellsOfRead, failed_due, failed_row}
+use Rattle.server_laws.proofs.Names.{eqb_tells, Ok, Err, Result, find, nat_lt, list_all, option_map, option_or, CallSign, Item, PacketValue, dir_long_cmd, dir_short_cmd, dl_error_resp, select_cmd, AreOf, IsOf, IsOwnEntry, Command, after, changed, drop_entry, grow, grown, grows, last_grow, seal, Entry, Holding, Store, entry_of, has_number, CallerList, State, aborting, command, download_part, download_row, in_session, receiving, row_among, session_row, state_by, upload_part, upload_row, OfUploads, if-there, session-case, upload-case, CallerLaw, DueReadsLaw, ReadsLaw, ReceivesOwn, TellsOfRead, failed_due, failed_row}
 
 -- ---- whose files the commands are of
 

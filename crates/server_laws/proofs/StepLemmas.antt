@@ -1,24 +1,11 @@
 -- What a step of a server sends goes by places.
 use Rattle.std.proofs.Common.{◌≡◌, ℕ, zero, suc, List, [], ◌∷◌, ◌++◌, get_or, Bool, true, false, ◌&&◌, Option, None, Some, refl, sym, ap, ap₂, subst, ◌∙◌, append-nil}
-use Rattle.std.specs.Prelude.{if◌then◌else◌, slice_get, slice_set}
-use Rattle.std.specs.Option.{option_map}
+use Rattle.std.specs.Prelude.{if◌then◌else◌}
 use Rattle.std.proofs.lemmas.List.Quantifiers.{position-Some}
-use Rattle.std.proofs.lemmas.Option.{same_Some, slice_get-get_or}
-use Rattle.ax25_frames.specs.FrameText.{FrameValue}
-use Rattle.ax25_link.specs.Ends.{LinkEnd}
 use Rattle.ax25_link.specs.Refusals.{refusal_frame}
-use Rattle.ax25_link.specs.Rows.{is_call}
-use Rattle.ax25_link.specs.Sending.{Drains, IsQuiet, Sending, next_sending}
-use Rattle.ax25_link.specs.Window.{Window}
-use Rattle.ftl0_session.specs.Lists.Lists.{has_left}
-use Rattle.ftl0_session.specs.Uploads.Failures.{Failure}
-use Rattle.ftl0_server.specs.Connection.Connected.{answering}
-use Rattle.ftl0_server.specs.Connection.Hearing.{Happened, hearing, with_end}
-use Rattle.ftl0_server.specs.Server.{Refused, Server, called_by, heard_at, hearing_at, hearing_by, hearing_stranger, refusing, sends_by, sends_of_places, with_slot}
-use Rattle.ftl0_server.specs.ServerStep.{Empties, ServerStep, Stepped, happening}
-use Rattle.ftl0_server.specs.Slots.{PlacesSend, Slot, SlotSends, all_freed, connected, first_empty, first_of, free, is_empty, leaving, places_next, slot_after, slot_next, slot_sends}
-use Rattle.node.specs.Events.{NodeEvent, hears}
+use Rattle.ftl0_server.specs.Server.{refusing}
 use Rattle.server_laws.specs.Places.{ChangesAt, HearsByPlaces, SendsByPlaces, SlotDrains, SlotsDrain, StepLaw, refusals}
+use Rattle.server_laws.proofs.Names.{slice_get, slice_set, option_map, same_Some, slice_get-get_or, FrameValue, LinkEnd, is_call, Drains, IsQuiet, Sending, next_sending, Window, has_left, Failure, answering, Happened, hearing, with_end, Refused, Server, called_by, heard_at, hearing_at, hearing_by, hearing_stranger, sends_by, sends_of_places, with_slot, Empties, ServerStep, Stepped, happening, PlacesSend, Slot, SlotSends, all_freed, connected, first_empty, first_of, free, is_empty, leaving, places_next, slot_after, slot_next, slot_sends, NodeEvent, hears}
 
 -- ---- one place
 

@@ -1,57 +1,21 @@
 -- What carrying out a job comes to, and what its outcomes are to the command that asked for it.
-use Rattle.std.specs.Prelude.{⊤, MatchResult}
-use Rattle.std.proofs.lemmas.Grind.{common_steps}
 use Rattle.std.proofs.Common.{inl, ◌≡◌, ℕ, Bool, true, false, List, [], ◌++◌, refl, sym, ◌∙◌, ap, subst, append-nil, Option, None, Some, IfSome, Result, Ok, Err, IfErr, IsErrOf, ◌≢◌, IfOk, ◌≤◌, length, arith}
 use Rattle.file_journal.specs.Position.{Position}
-use Rattle.client_notes.specs.Calls.{Runs}
-use Rattle.client_notes.specs.Walk.{state}
-use Rattle.client_notes.proofs.Offered.{GoesThrough, goes_through, images-here, recovered-ready, runs_same, Several-none, Several-then, told_weaker}
-use Rattle.client_notes.specs.Command.{NotesCommand}
 use Rattle.client_notes.specs.Laws.{after_all}
-use Rattle.client_notes.specs.Notes.{Lists, got_of}
-use Rattle.client_notes.specs.OnDisk.{EachImage}
-use Rattle.client_notes.specs.Several.{CutsOff, DoesSeveral}
-use Rattle.client_notes.specs.State.{StandsFor, standing_of}
-use Rattle.node.specs.Lent.{Lent, Seen}
 use Rattle.node.specs.Turns as turns
-use Rattle.px_base.specs.declared.air.Turn.{Turn}
-use Rattle.node.specs.declared.finished.Finished.{Finished}
 use Rattle.node.specs.declared.finished.Finished.TheVariants as finished
-use Rattle.node.specs.declared.stop.NodeStop.{NodeStop}
 use Rattle.node.specs.declared.stop.NodeStop.TheVariants as node
-use Rattle.ftl0_client.specs.Table.{JobState, new_job}
-use Rattle.ftl0_client.specs.Client.{Client, ClientEvent}
-use Rattle.ftl0_client.specs.ClientState.{ClientState, listing_in}
-use Rattle.ftl0_client.specs.Going.{Promises}
-use Rattle.ftl0_client.specs.declared.outcome.Outcome.{Outcome}
 use Rattle.ftl0_client.specs.declared.outcome.Outcome.TheVariants as outcome
-use Rattle.uploader.specs.Turns.Carried.{CarriesOut, CountsWhere, EndsOver, Run, asked_first, before_last}
-use Rattle.uploader.specs.declared.stop.SendStop.{SendStop}
 use Rattle.uploader.specs.declared.stop.SendStop.TheVariants as stop
-use Rattle.uploader.specs.declared.terms.ClientTerms.{ClientTerms}
-use Rattle.uploader.specs.Carried.{Carries, asked_of, client_from}
-use Rattle.uploader.specs.Causes.{HasAirCause, HasCauses, is_before_outcome}
-use Rattle.uploader.specs.OnDisk.{RefusesNotes}
-use Rattle.uploader.specs.Ready.{RecoversClient, IsUpload}
-use Rattle.uploader.specs.Stops.{answer_of, stop_of_node, stop_of_turns}
-use Rattle.pfh_reader.specs.Faults.{fault_code}
-use Rattle.disk_model.specs.declared.disk.Disk.{Ghosts}
-use Rattle.client_notes.specs.Answers.{noted_at}
+use Rattle.uploader.specs.Causes.{HasAirCause}
 use Rattle.client_notes.specs.declared.answers.Noted.TheVariants as noted
-use Rattle.node.specs.Turns.{TurnsBy}
 use Rattle.ftl0_client.specs.Work.{Work}
 use Rattle.ftl0_client.specs.Work.TheVariants as work
 use Rattle.ftl0_client.specs.Directory.{Directory, new_directory}
 use Rattle.ftl0_client.specs.Download.{Download, new_download}
-use Rattle.ftl0_client.specs.JobLaws.{IsAckedIn}
 use Rattle.ftl0_client.specs.Short.{are_short_headers}
-use Rattle.ftl0_client.specs.Upload.{Upload}
-use Rattle.px_base.specs.CallSign.{CallSign}
-use Rattle.px_base.specs.Shelves.{Holding}
 use Rattle.client_notes.specs.Limits.{longest_file}
-use Rattle.ftl0_client.specs.JobState.{NotesGoWith}
-use Rattle.uploader.specs.Fetching.{Fetches, FileAsked, KeepsBy, download_of}
-use Rattle.uploader.specs.Listing.{FilesAsked, ListsFiles, ShowsBy, directory_of}
+use Rattle.uploader.proofs.Names.{⊤, MatchResult, common_steps, Runs, state, GoesThrough, goes_through, images-here, recovered-ready, runs_same, Several-none, Several-then, told_weaker, NotesCommand, Lists, got_of, EachImage, CutsOff, DoesSeveral, StandsFor, standing_of, Lent, Seen, Turn, Finished, NodeStop, JobState, new_job, Client, ClientEvent, ClientState, listing_in, Promises, Outcome, CarriesOut, CountsWhere, EndsOver, Run, asked_first, before_last, SendStop, ClientTerms, Carries, asked_of, client_from, HasCauses, is_before_outcome, RefusesNotes, RecoversClient, IsUpload, answer_of, stop_of_node, stop_of_turns, fault_code, Ghosts, noted_at, TurnsBy, IsAckedIn, Upload, CallSign, Holding, NotesGoWith, Fetches, FileAsked, KeepsBy, download_of, FilesAsked, ListsFiles, ShowsBy, directory_of}
 
 -- ---- the stops of a command
 

@@ -1,33 +1,11 @@
 -- A command that carried out a job comes to what the definition makes of it over all that was heard.
 use Rattle.std.proofs.Common.{◌≡◌, ℕ, List, [], ◌∷◌, ◌++◌, refl, ap, sym, subst, ◌∙◌, inl, inr, Bool, true, false, append_assoc, ◌≢◌, Option, Some, Result, Ok, Err, map}
-use Rattle.std.proofs.lemmas.List.{append_cancel_left}
-use Rattle.std.specs.List.{AllByRecursion}
-use Rattle.px_base.specs.Outside.{Grows}
-use Rattle.px_base.specs.declared.air.Turn.{Turn}
-use Rattle.ax25_frames.specs.FrameText.{FrameValue}
-use Rattle.node.specs.Events.{NodeEvent, NodeEvents}
-use Rattle.node.specs.Laws.{OneRunLaw}
-use Rattle.node.specs.Lent.{Seen}
-use Rattle.node.specs.Turns.{TurnsBy}
-use Rattle.node.specs.declared.finished.Finished.{Finished}
 use Rattle.node.specs.declared.finished.Finished.TheVariants as finished
-use Rattle.client_notes.specs.Command.{NotesCommand}
-use Rattle.ftl0_client.specs.Table.{JobState}
-use Rattle.ftl0_client.specs.Client.{Client, ClientEvent, asks}
-use Rattle.ftl0_client.specs.Going.{AsksNothing, GoesOver, StaysLaw}
-use Rattle.ftl0_client.specs.Laws.{OneStepLaw}
-use Rattle.ftl0_client.specs.Outcomes.{outcome_by}
-use Rattle.ftl0_client.specs.declared.outcome.Outcome.{Outcome}
 use Rattle.ftl0_client.specs.declared.outcome.Outcome.TheVariants as outcome
-use Rattle.uploader.specs.Turns.Carried.{EndsOver, asked_first, before_last}
-use Rattle.uploader.specs.Turns.Carrying.{StopsBehind, TakesAll, event_of}
-use Rattle.node.specs.declared.stop.NodeStop.{NodeStop}
 use Rattle.node.specs.declared.stop.NodeStop.TheVariants as node
+use Rattle.uploader.proofs.Names.{append_cancel_left, AllByRecursion, Grows, Turn, FrameValue, NodeEvent, NodeEvents, OneRunLaw, Seen, TurnsBy, Finished, NotesCommand, JobState, Client, ClientEvent, asks, AsksNothing, GoesOver, StaysLaw, OneStepLaw, outcome_by, Outcome, EndsOver, asked_first, before_last, StopsBehind, TakesAll, event_of, NodeStop, SendStop, client_of, answer_of, by_outcome, stop_of_turns}
 use Rattle.uploader.proofs.turns.CourseLemmas.{goes-alike, goes-append, goes-one, nothing-asked}
-use Rattle.uploader.specs.declared.stop.SendStop.{SendStop}
-use Rattle.uploader.specs.Carried.{client_of}
 use Rattle.uploader.specs.Led.{ComesBy, IsCutShort, LedLaw, is_of_turns}
-use Rattle.uploader.specs.Stops.{answer_of, by_outcome, stop_of_turns}
 
 -- what is told to have come since is what came
 pub told-same : {X : Type 0} (before now : Option (List X)) (earlier xs ys : List X) → before ≡ Some earlier → now ≡ Some (earlier ++ xs) → Grows before now ys → ys ≡ xs

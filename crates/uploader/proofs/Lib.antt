@@ -3,3 +3,4 @@ pub mod LedLemmas
 mod LineLemmas
 mod SendLemmas
 pub mod StartLemmas
+mod Names

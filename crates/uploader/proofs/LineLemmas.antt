@@ -1,9 +1,6 @@
 -- The lines of a list that are shown so far.
 use Rattle.std.proofs.Common.{◌≡◌, ℕ, suc, ◌+◌, ◌-◌, ◌*◌, ◌/◌, ◌<◌, ◌≤◌, List, [], ◌++◌, length, take, drop, refl, sym, ap, ◌∙◌, subst, arith, append_assoc, append-nil}
-use Rattle.std.specs.Prelude.{Option, Result, Ok, Err, OnErr}
-use Rattle.px_base.specs.Outside.{Gains, GainsPrefix}
-use Rattle.px_base.proofs.Told.{Gains-trans, GainsPrefix-after}
-use Rattle.uploader.specs.Lines.{file_line, first_lines, short_len}
+use Rattle.uploader.proofs.Names.{Option, Result, Ok, Err, OnErr, Gains, GainsPrefix, Gains-trans, GainsPrefix-after, file_line, first_lines, short_len}
 
 -- the lines of so many headers: one, and the others
 pub lines-step : (n i : ℕ) (left : List ℕ) → i < n → first_lines (n - i) left ≡ file_line (take short_len left) ++ first_lines (n - (i + 1)) (drop short_len left)

@@ -1,46 +1,13 @@
 -- How `send` ends.
-use Rattle.std.proofs.lemmas.Grind.{common_steps}
 use Rattle.std.proofs.Common.{◌≡◌, ◌⊎◌, ⊎_elim, inl, inr, ℕ, Bool, true, false, List, [], ◌∷◌, length, refl, sym, ap, ◌∙◌, subst, arith, Some, Option, IfSome, Result, Ok, Err, IfErr, IfOk, IsErr, IsErrOf, IsTrue, MatchResult}
-use Rattle.px_base.specs.CallSign.{CallSign}
-use Rattle.px_base.specs.Shelves.{Holding, content_of}
-use Rattle.pfh_reader.specs.Faults.{fault_code}
-use Rattle.disk_model.specs.declared.disk.Disk.{Ghosts}
-use Rattle.client_notes.specs.Calls.{Runs}
-use Rattle.client_notes.proofs.Offered.{acked-last, alike_same, begun-fresh, begun-kept, goes_through, images-here, not-failed, of_task, recovered-ready, Several-none, Several-one, Several-same, stops_none, told_weaker}
-use Rattle.client_notes.specs.Walk.{state}
-use Rattle.client_notes.specs.Answers.{StartsBy, answer_of, fresh_task, start_reaches}
-use Rattle.client_notes.specs.Command.{NotesCommand}
-use Rattle.client_notes.specs.declared.answers.Begun.{Begun}
+use Rattle.client_notes.specs.Answers.{answer_of}
 use Rattle.client_notes.specs.declared.answers.Begun.TheVariants as begun
 use Rattle.client_notes.specs.declared.answers.Noted.TheVariants as noted
-use Rattle.client_notes.specs.declared.refusals.NotesRefusal.{NotesRefusal}
 use Rattle.client_notes.specs.declared.refusals.NotesRefusal.TheVariants as refusal
-use Rattle.client_notes.specs.Notes.{Lists, last_task}
-use Rattle.client_notes.specs.OnDisk.{Does, EachImage, Untouched}
-use Rattle.client_notes.specs.Several.{CutsOff, DoesSeveral}
-use Rattle.client_notes.specs.State.{IsReady, NotesState, StandsFor, standing_of}
-use Rattle.node.specs.Lent.{Lent, Seen, lent}
 use Rattle.node.specs.Turns as turns
-use Rattle.ftl0_client.specs.JobLaws.{IsAckedIn}
-use Rattle.ftl0_client.specs.Table.{JobState}
-use Rattle.ftl0_client.specs.Upload.{new_upload}
-use Rattle.ftl0_client.specs.Client.{Client}
-use Rattle.ftl0_client.specs.ClientState.{ClientState, GoWithAttempt, IsClient, MayHear, client_pending, listing_in}
-use Rattle.ftl0_client.specs.declared.outcome.Outcome.{Outcome}
 use Rattle.ftl0_client.specs.declared.outcome.Outcome.TheVariants as outcome
-use Rattle.uploader.specs.Turns.Carried.{CarriesOut, MayCarryOut}
-use Rattle.uploader.specs.declared.stop.SendStop.{SendStop}
 use Rattle.uploader.specs.declared.stop.SendStop.TheVariants as stop
-use Rattle.uploader.specs.declared.sum.FileSum.{FileSum}
-use Rattle.uploader.specs.declared.terms.ClientTerms.{ClientTerms}
-use Rattle.uploader.specs.declared.terms.Sent.{Sent}
-use Rattle.uploader.specs.Carried.{client_from}
-use Rattle.uploader.specs.Causes.{HasCauses}
-use Rattle.uploader.specs.Loading.{HasShelfCause, IsPastFile, IsSendable, IsUnfit, LoadsExactly, RefusesFile, sum_of}
-use Rattle.uploader.specs.OnDisk.{RefusesNotes}
-use Rattle.uploader.specs.Ready.{RecoversClient, UploadsJob}
-use Rattle.uploader.specs.Sending.{EndsAtStart, IsLastAcked, IsTaskFor, IsUnstarted, SendEnds, Uploads, first_command, last_answer, upload_of}
-use Rattle.uploader.specs.Stops.{stop_of_start}
+use Rattle.uploader.proofs.Names.{common_steps, CallSign, Holding, content_of, fault_code, Ghosts, Runs, acked-last, alike_same, begun-fresh, begun-kept, goes_through, images-here, not-failed, of_task, recovered-ready, Several-none, Several-one, Several-same, stops_none, told_weaker, state, StartsBy, fresh_task, start_reaches, NotesCommand, Begun, NotesRefusal, Lists, last_task, Does, EachImage, Untouched, CutsOff, DoesSeveral, IsReady, NotesState, StandsFor, standing_of, Lent, Seen, lent, IsAckedIn, JobState, new_upload, Client, ClientState, GoWithAttempt, IsClient, MayHear, client_pending, listing_in, Outcome, CarriesOut, MayCarryOut, SendStop, FileSum, ClientTerms, Sent, client_from, HasCauses, HasShelfCause, IsPastFile, IsSendable, IsUnfit, LoadsExactly, RefusesFile, sum_of, RefusesNotes, RecoversClient, UploadsJob, EndsAtStart, IsLastAcked, IsTaskFor, IsUnstarted, SendEnds, Uploads, first_command, last_answer, upload_of, stop_of_start}
 use Rattle.uploader.proofs.CarryLemmas.{acked-in, carries, causes, causes-err, causes-late, causes-still, HasCarried, images-at-end, never, never-bad, of_answer, of_turns, outcome-fine, recovered_exactly, upload-reached}
 use Rattle.uploader.proofs.StartLemmas.{cut_of, refused-start}
 

@@ -1,29 +1,13 @@
 -- The start of a command: a recovery that is refused, or behind which there was no memory, and a start that gives no task.
 use Rattle.std.proofs.Common.{◌≡◌, inl, ℕ, List, refl, sym, ◌∙◌, ap, ◌⊎◌, inr, false, [], ◌∷◌, subst, Option, None, Some, Ok}
-use Rattle.std.specs.Prelude.{⊤, IsErrOf, Result, Err}
-use Rattle.disk_model.specs.declared.disk.Disk.{Ghosts}
 use Rattle.file_journal.specs.Restoring.{RefusesExactly}
 use Rattle.client_notes.specs.Records.{notes_form}
 use Rattle.client_notes.specs.Recovery.{AnswersRecovery, Recovers}
-use Rattle.client_notes.specs.State.{NotesState, standing_of}
 use Rattle.client_notes.specs.StoreFault.{StoreFault}
 use Rattle.client_notes.specs.StoreFault.TheVariants as fault
-use Rattle.client_notes.proofs.Offered.{if_told, runs_same, told_weaker, at_told}
-use Rattle.uploader.specs.declared.stop.SendStop.{SendStop}
 use Rattle.uploader.specs.declared.stop.SendStop.TheVariants as stop
-use Rattle.uploader.specs.OnDisk.{EndsExactly, RefusesNotes}
-use Rattle.uploader.specs.Ready.{StopsRecovery}
-use Rattle.uploader.specs.Stops.{stop_of_fault, stop_of_start}
-use Rattle.client_notes.specs.Answers.{StartsBy}
-use Rattle.client_notes.specs.Command.{NotesCommand}
-use Rattle.client_notes.specs.Notes.{Lists}
-use Rattle.client_notes.specs.Walk.{state}
-use Rattle.uploader.specs.Carried.{RecoversTo}
-use Rattle.client_notes.specs.declared.answers.Begun.{Begun}
-use Rattle.client_notes.specs.declared.refusals.NotesRefusal.{NotesRefusal}
 use Rattle.client_notes.specs.declared.refusals.NotesRefusal.TheVariants as refusal
-use Rattle.uploader.specs.declared.sum.FileSum.{FileSum}
-use Rattle.uploader.specs.Sending.{EndsAtStart, IsUnnoted}
+use Rattle.uploader.proofs.Names.{⊤, IsErrOf, Result, Err, Ghosts, NotesState, standing_of, if_told, runs_same, told_weaker, at_told, SendStop, EndsExactly, RefusesNotes, StopsRecovery, stop_of_fault, stop_of_start, StartsBy, NotesCommand, Lists, state, RecoversTo, Begun, NotesRefusal, FileSum, EndsAtStart, IsUnnoted}
 pub use Rattle.client_notes.proofs.Offered.{IsOfTask, of_task}
 
 -- what a recovery leaves behind which there was no memory

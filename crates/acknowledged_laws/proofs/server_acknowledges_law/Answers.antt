@@ -1,5 +1,5 @@
 -- From the laws of the session's table and of taking packets.
-use Rattle.node.specs.Lent.{seen}
+use Rattle.acknowledged_laws.proofs.Names.{seen}
 use Rattle.acknowledged_laws.proofs.AcknowledgedLemmas.{server_acknowledges}
 use Rattle.acknowledged_laws.proofs.server_acknowledges_law.Goals as goal
 

@@ -1,5 +1,5 @@
 -- From the law of the session's table.
-use Rattle.node.specs.Lent.{seen}
+use Rattle.acknowledged_laws.proofs.Names.{seen}
 use Rattle.acknowledged_laws.proofs.AcknowledgedLemmas.{session_acknowledges}
 use Rattle.acknowledged_laws.proofs.session_acknowledges_law.Goals as goal
 

@@ -1,24 +1,11 @@
 -- What an upload that comes to the outcome that its file was acknowledged noted.
 use Rattle.std.proofs.Common.{◌≡◌, ℕ, ◌+◌, ◌-◌, List, [], ◌∷◌, ◌++◌, length, refl, ap, sym, ◌∙◌, subst, arith}
 use Rattle.std.proofs.Common.{append_assoc, append-nil, length-append}
-use Rattle.std.specs.Prelude.{Option, None, Some, Ok, Err}
-use Rattle.ftl0_packets.specs.Layout.{Item, PacketValue}
-use Rattle.client_notes.specs.Command.{NotesCommand, acked}
-use Rattle.client_notes.specs.Laws.{AreAllowed, after_all}
-use Rattle.client_notes.specs.Notes.{Lists}
-use Rattle.client_notes.specs.Several.{after_first}
 use Rattle.client_notes.specs.State.{StandsFor}
-use Rattle.client_notes.proofs.Offered.{AreAllowed-split, after_first-then}
-use Rattle.ftl0_job.specs.declared.ending.Ending.{Ending}
 use Rattle.ftl0_job.specs.declared.ending.Outcome.TheVariants as outcome
 use Rattle.ftl0_job.specs.declared.work.Work.TheVariants as work
-use Rattle.ftl0_job.specs.JobState.{GoBy, HasTask}
-use Rattle.ftl0_job.specs.Laws.{Acknowledges, reached}
-use Rattle.ftl0_job.specs.Row.{Row, strange}
-use Rattle.ftl0_job.specs.Table.{job_row, new_job, row_of}
 use Rattle.ftl0_job.specs.Upload.{Upload, upload_row}
-use Rattle.ftl0_job.proofs.Offered.{acknowledged, job-in, stays-item, upload-rows, UploadRows}
-use Rattle.ftl0_client.specs.Attempt.Laws.{AckedLaw, AcknowledgesIn}
+use Rattle.ftl0_client.proofs.Names.{Option, None, Some, Ok, Err, Item, PacketValue, NotesCommand, acked, AreAllowed, after_all, Lists, after_first, AreAllowed-split, after_first-then, Ending, GoBy, HasTask, Acknowledges, reached, Row, strange, job_row, new_job, row_of, acknowledged, job-in, stays-item, upload-rows, UploadRows, AckedLaw, AcknowledgesIn}
 use Rattle.ftl0_client.proofs.attempt.ReachedLemmas.{reaches}
 
 -- ---- an upload stays that of its task

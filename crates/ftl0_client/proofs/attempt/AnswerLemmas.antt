@@ -1,23 +1,6 @@
 -- How an attempt takes one packet.
 use Rattle.std.proofs.Common.{◌≡◌, ℕ, List, [], ◌∷◌, ap, sym, ◌∙◌, subst, append-nil}
-use Rattle.std.specs.Prelude.{Option, None, Ok}
-use Rattle.disk_model.specs.declared.disk.Disk.{Ghosts}
-use Rattle.ax25_link.specs.Ends.{LinkEnd}
-use Rattle.ax25_link.specs.Kept.{StandsFor}
-use Rattle.ax25_link.specs.Window.{Window}
-use Rattle.ftl0_packets.specs.Items.{kind_of_item, texts}
-use Rattle.ftl0_packets.specs.Layout.{Item}
-use Rattle.client_notes.specs.Command.{NotesCommand}
-use Rattle.client_notes.specs.Several.{DoesSeveral}
-use Rattle.ftl0_job.specs.declared.ending.Ending.{Ending}
-use Rattle.ftl0_job.specs.declared.work.Work.{Work}
-use Rattle.ftl0_job.specs.Row.{Row}
-use Rattle.ftl0_job.specs.Table.{JobState, job_after, job_row}
-use Rattle.ftl0_job.specs.Taking.{TakesPacket, with_notes}
-use Rattle.ftl0_client.specs.Attempt.Attempted.{Attempted}
-use Rattle.ftl0_client.specs.Attempt.AttemptState.{Working}
-use Rattle.ftl0_client.specs.Attempt.Feeding.{Made, RepliesAndParts, Takes}
-use Rattle.ftl0_client.specs.Attempt.Taking.{after_noting, quietly, taking_by}
+use Rattle.ftl0_client.proofs.Names.{Option, None, Ok, Ghosts, LinkEnd, StandsFor, Window, kind_of_item, texts, Item, NotesCommand, DoesSeveral, Ending, Work, Row, JobState, job_after, job_row, TakesPacket, with_notes, Attempted, Working, Made, RepliesAndParts, Takes, after_noting, quietly, taking_by}
 
 module _ {D : Type 0} (g : Ghosts D) (item : Item) (before now : Working D) (job_m : JobState) (kind : ℕ) (text replies : List ℕ)
     (is_kind : kind ≡ kind_of_item item) (is_text : text ≡ replies) where

@@ -1,35 +1,9 @@
 -- What became of an attempt stays.
 use Rattle.std.proofs.Common.{◌≡◌, ℕ, ◌+◌, ◌==◌, Bool, true, false, ◌&&◌, ◌||◌, List, [], refl, ap, sym, ◌∙◌}
-use Rattle.std.specs.Prelude.{Option, None, Some, if◌then◌else◌}
-use Rattle.std.proofs.lemmas.Bool.{cond_both}
-use Rattle.ax25_frames.specs.declared.control.Control.{Control}
-use Rattle.ax25_frames.specs.declared.control.Control.TheVariants.{I, Rr, Rnr, Rej, Sabm, Disc, Dm, Ua, Frmr, Ui}
-use Rattle.ax25_frames.specs.FrameText.{FrameValue}
-use Rattle.ax25_link.specs.declared.state.Heard.{Heard}
-use Rattle.ax25_link.specs.declared.state.Heard.TheVariants.{Nothing, Opened, Reopened, Bytes, Closed}
-use Rattle.ax25_link.specs.declared.state.LinkState.{LinkState}
+use Rattle.std.specs.Prelude.{if◌then◌else◌}
 use Rattle.ax25_link.specs.declared.state.LinkState.TheVariants as link
-use Rattle.ax25_link.specs.declared.state.LinkState.TheVariants.{Down}
-use Rattle.ax25_link.specs.declared.state.Why.{Why}
 use Rattle.ax25_link.specs.declared.state.Why.TheVariants as why
-use Rattle.ax25_link.specs.Acknowledging.{applying, is_bad, is_good, meaning_of}
-use Rattle.ax25_link.specs.Ends.{LinkEnd, free_octets, refuse}
-use Rattle.ax25_link.specs.Frames.{receive_number}
-use Rattle.ax25_link.specs.LinkStep.{heard_of_tick}
-use Rattle.ax25_link.specs.Rows.{Outcome, after_frame, calling_row, ending_row, entering, heard_of, information_row}
-use Rattle.ax25_link.specs.Rows.{is_call, numbered_row, replying, row_of_state, sending_again, supervisory_row, up_row}
-use Rattle.ax25_link.specs.Rows.{with_busy}
-use Rattle.ax25_link.specs.Timer.{after_count, after_tick, is_down, is_spent, is_up, runs_out, told_of_tick, trying}
-use Rattle.ax25_link.specs.Window.{Window}
-use Rattle.client_notes.specs.Notes.{Lists}
-use Rattle.ftl0_job.specs.declared.ending.Ending.{Ending}
-use Rattle.ftl0_job.specs.Table.{JobState}
-use Rattle.ftl0_client.specs.Attempt.Attempted.{Attempted, outcome_by, outcome_of}
-use Rattle.ftl0_client.specs.Attempt.Hearing.{after_told, closing, hearing, packets_told, settling, ticking, with_end}
-use Rattle.ftl0_client.specs.Attempt.Laws.{IsToldDown, OutcomeLaw, StaysReached}
-use Rattle.ftl0_client.specs.Attempt.Settling.{parting_later}
-use Rattle.ftl0_client.specs.Attempt.Settling.{queuing, settled}
-use Rattle.ftl0_client.specs.Attempt.Taking.{Happened, taking}
+use Rattle.ftl0_client.proofs.Names.{Option, None, Some, cond_both, Control, I, Rr, Rnr, Rej, Sabm, Disc, Dm, Ua, Frmr, Ui, FrameValue, Heard, Nothing, Opened, Reopened, Bytes, Closed, LinkState, Down, Why, applying, is_bad, is_good, meaning_of, LinkEnd, free_octets, refuse, receive_number, heard_of_tick, Outcome, after_frame, calling_row, ending_row, entering, heard_of, information_row, is_call, numbered_row, replying, row_of_state, sending_again, supervisory_row, up_row, with_busy, after_count, after_tick, is_down, is_spent, is_up, runs_out, told_of_tick, trying, Window, Lists, Ending, JobState, Attempted, outcome_by, outcome_of, after_told, closing, hearing, packets_told, settling, ticking, with_end, IsToldDown, OutcomeLaw, StaysReached, parting_later, queuing, settled, Happened, taking}
 use Rattle.ftl0_client.proofs.attempt.EndedLemmas.{stays-law}
 use Rattle.ftl0_client.proofs.attempt.TakingLemmas.{taking-keeps}
 use Rattle.ftl0_client.proofs.attempt.SettlingLemmas.{settled-keeps}

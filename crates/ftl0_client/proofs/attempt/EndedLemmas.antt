@@ -1,24 +1,7 @@
 -- What becomes of a job that has an outcome: nothing.
 use Rattle.std.proofs.Common.{◌≡◌, ℕ, List, [], ◌∷◌, refl, ap, ◌∙◌}
-use Rattle.std.specs.Prelude.{Option, None, Some, ◌&&◌}
-use Rattle.std.proofs.lemmas.Bool.{cond_both}
-use Rattle.ax25_link.specs.declared.state.Heard.{Heard}
-use Rattle.ax25_link.specs.declared.state.Heard.TheVariants.{Nothing, Opened, Reopened, Bytes, Closed}
-use Rattle.ax25_link.specs.Ends.{free_octets}
-use Rattle.ax25_link.specs.LinkStep.{heard_of_tick}
-use Rattle.ax25_link.specs.Rows.{after_frame, heard_of}
-use Rattle.ax25_link.specs.Timer.{after_tick, is_up, told_of_tick}
-use Rattle.ftl0_packets.specs.Layout.{Item}
-use Rattle.client_notes.specs.Laws.{after_all}
-use Rattle.client_notes.specs.Notes.{Lists}
-use Rattle.ftl0_job.specs.declared.ending.Ending.{Ending}
-use Rattle.ftl0_job.specs.Due.{due_by, next_due}
-use Rattle.ftl0_job.specs.Table.{JobState}
-use Rattle.ftl0_client.specs.Attempt.Attempted.{Attempted}
-use Rattle.ftl0_client.specs.Attempt.Hearing.{after_hearing, after_ticking, after_told, packets_heard, with_end}
-use Rattle.ftl0_client.specs.Attempt.Laws.{StaysLaw}
-use Rattle.ftl0_client.specs.Attempt.Settling.{is_all_free, is_later, parting_later, queuing, settled}
-use Rattle.ftl0_client.specs.Attempt.Taking.{Happened, after_noting, quietly, taking, taking_by, taking_one}
+use Rattle.std.specs.Prelude.{◌&&◌}
+use Rattle.ftl0_client.proofs.Names.{Option, None, Some, cond_both, Heard, Nothing, Opened, Reopened, Bytes, Closed, free_octets, heard_of_tick, after_frame, heard_of, after_tick, is_up, told_of_tick, Item, after_all, Lists, Ending, due_by, next_due, JobState, Attempted, after_hearing, after_ticking, after_told, packets_heard, with_end, StaysLaw, is_all_free, is_later, parting_later, queuing, settled, Happened, after_noting, quietly, taking, taking_by, taking_one}
 use Rattle.ftl0_client.proofs.attempt.SettlingLemmas.{queuing-none}
 
 -- packets that come after the outcome change nothing

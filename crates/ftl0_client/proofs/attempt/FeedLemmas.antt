@@ -1,24 +1,6 @@
 -- How packets are taken, one after another.
 use Rattle.std.proofs.Common.{inl, refl, ◌≡◌, ℕ, List, [], ◌∷◌, ◌++◌, ap, sym, ◌∙◌, subst}
-use Rattle.std.specs.Prelude.{None, Result, Ok, Err, ⊤}
-use Rattle.disk_model.specs.declared.disk.Disk.{Ghosts}
-use Rattle.ax25_link.specs.declared.state.LinkState.TheVariants.{Up}
-use Rattle.ax25_link.specs.Window.{Window}
-use Rattle.ftl0_packets.specs.Layout.{Item}
-use Rattle.ftl0_packets.specs.Reading.{packets_of}
-use Rattle.packet_link.specs.PacketLink.{HasFront}
-use Rattle.packet_link.proofs.Fronts.{front-none, front-then, stations-same, stations-then}
-use Rattle.client_notes.specs.Laws.{after_all}
-use Rattle.client_notes.specs.Notes.{Lists}
-use Rattle.client_notes.proofs.Offered.{Several-none, Several-then}
-use Rattle.disk_model.specs.declared.halt.Halt.{Halt}
-use Rattle.ftl0_job.specs.Table.{JobState}
-use Rattle.ftl0_job.specs.Taking.{WithNotes, with_notes}
-use Rattle.ftl0_client.specs.Attempt.Attempted.{Attempted}
-use Rattle.ftl0_client.specs.Attempt.AttemptState.{AttemptState, HearsBy, IsAttempt, LeavesFit, StopsAtPacket, Working, working}
-use Rattle.ftl0_client.specs.Attempt.Feeding.{Made, MayAnswer, StopsAmongOctets, StopsHere, Takes, TakesOctetsBy}
-use Rattle.ftl0_client.specs.Attempt.Hearing.{accepting}
-use Rattle.ftl0_client.specs.Attempt.Taking.{Happened, taking}
+use Rattle.ftl0_client.proofs.Names.{None, Result, Ok, Err, ⊤, Ghosts, Up, Window, Item, packets_of, HasFront, front-none, front-then, stations-same, stations-then, after_all, Lists, Several-none, Several-then, Halt, JobState, WithNotes, with_notes, Attempted, AttemptState, HearsBy, IsAttempt, LeavesFit, StopsAtPacket, Working, working, Made, MayAnswer, StopsAmongOctets, StopsHere, Takes, TakesOctetsBy, accepting, Happened, taking}
 use Rattle.ftl0_client.proofs.attempt.Invariants.{IsTaking}
 use Rattle.ftl0_client.proofs.attempt.TakingLemmas.{taking-append, taking-keeps}
 

@@ -1,23 +1,10 @@
 -- What a download that comes to the outcome that its file was fetched noted.
 use Rattle.std.proofs.Common.{◌≡◌, ℕ, List, [], ◌++◌, refl, sym, ◌∙◌, subst}
-use Rattle.std.specs.Prelude.{Option, None, Some, Ok, Err}
-use Rattle.px_base.specs.CallSign.{CallSign}
-use Rattle.ftl0_packets.specs.Layout.{Item, PacketValue}
 use Rattle.ftl0_job.specs.Faults.{fault_code}
-use Rattle.client_notes.specs.Command.{NotesCommand}
-use Rattle.client_notes.specs.Laws.{after_all}
-use Rattle.client_notes.specs.Notes.{Lists, got_of}
-use Rattle.client_notes.proofs.Offered.{after_all-append}
-use Rattle.ftl0_job.specs.declared.ending.Ending.{Ending}
 use Rattle.ftl0_job.specs.declared.ending.Outcome.TheVariants as outcome
 use Rattle.ftl0_job.specs.declared.work.Work.TheVariants as work
 use Rattle.ftl0_job.specs.Download.{Download, download_row}
-use Rattle.ftl0_job.specs.JobState.{GoBy, HasGot}
-use Rattle.ftl0_job.specs.Laws.{reached}
-use Rattle.ftl0_job.specs.Row.{Row, strange}
-use Rattle.ftl0_job.specs.Table.{job_row, new_job, row_of}
-use Rattle.ftl0_job.proofs.Offered.{download-rows, DownloadRows, fetched, job-in, stays-item}
-use Rattle.ftl0_client.specs.Attempt.Laws.{FetchedLaw, IsFetchedBy}
+use Rattle.ftl0_client.proofs.Names.{Option, None, Some, Ok, Err, CallSign, Item, PacketValue, NotesCommand, after_all, Lists, got_of, after_all-append, Ending, GoBy, HasGot, reached, Row, strange, job_row, new_job, row_of, download-rows, DownloadRows, fetched, job-in, stays-item, FetchedLaw, IsFetchedBy}
 use Rattle.ftl0_client.proofs.attempt.ReachedLemmas.{reaches}
 
 -- ---- a download stays that of its file

@@ -1,33 +1,10 @@
 -- How an attempt hears a frame.
 use Rattle.std.proofs.Common.{inl, ◌≡◌, List, ◌++◌, take, drop, refl, ap, sym, ◌∙◌, subst, append_assoc}
-use Rattle.std.specs.Prelude.{Option, Result, Ok, Err, ⊤}
 use Rattle.std.proofs.lemmas.List.{take-append-drop}
-use Rattle.ax25_frames.specs.FrameText.{FrameValue}
-use Rattle.disk_model.specs.declared.disk.Disk.{Ghosts}
-use Rattle.ax25_link.specs.declared.state.Heard.{Heard}
-use Rattle.ax25_link.specs.Kept.{Tells}
-use Rattle.ax25_link.specs.Rows.{after_frame, heard_of}
-use Rattle.ax25_link.specs.Window.{Window}
-use Rattle.ftl0_packets.specs.Layout.{Item}
 use Rattle.client_notes.specs.Calls.{Leaves}
-use Rattle.client_notes.proofs.Offered.{makes-longer, puts_on, puts_same, Several-then, told_weaker, weaker}
-use Rattle.client_notes.specs.Command.{NotesCommand}
-use Rattle.client_notes.specs.Laws.{after_all}
-use Rattle.client_notes.specs.Notes.{Lists}
-use Rattle.client_notes.specs.Several.{DoesSeveral, MakesFirst}
-use Rattle.client_notes.specs.State.{NotesState}
-use Rattle.disk_model.specs.declared.halt.Halt.{Halt}
 use Rattle.disk_model.specs.declared.halt.Halt.TheVariants as stop
 use Rattle.ftl0_job.specs.Noting.{HasNoted}
-use Rattle.ftl0_job.specs.Table.{job_row}
-use Rattle.ftl0_job.specs.Taking.{WithNotes, with_notes}
-use Rattle.ftl0_client.specs.Attempt.Attempted.{Attempted}
-use Rattle.ftl0_client.specs.Attempt.AttemptState.{AttemptState, HearsBy, IsAttempt, PutsBy, StopsAmong}
-use Rattle.ftl0_client.specs.Attempt.Hearing.{after_hearing, after_told, packets_heard, packets_told, with_end}
-use Rattle.ftl0_client.specs.Attempt.Taking.{Happened, taking}
-use Rattle.ftl0_client.specs.Calls.{StopsBy}
-use Rattle.ftl0_client.specs.Client.{Client, client_hearing, hearing_by}
-use Rattle.ftl0_client.specs.ClientState.{ClientState}
+use Rattle.ftl0_client.proofs.Names.{Option, Result, Ok, Err, ⊤, FrameValue, Ghosts, Heard, Tells, after_frame, heard_of, Window, Item, makes-longer, puts_on, puts_same, Several-then, told_weaker, weaker, NotesCommand, after_all, Lists, DoesSeveral, MakesFirst, NotesState, Halt, job_row, WithNotes, with_notes, Attempted, AttemptState, HearsBy, IsAttempt, PutsBy, StopsAmong, after_hearing, after_told, packets_heard, packets_told, with_end, Happened, taking, StopsBy, Client, client_hearing, hearing_by, ClientState}
 use Rattle.ftl0_client.proofs.attempt.TakingLemmas.{noted-front}
 
 module _ {D : Type 0} (g : Ghosts D) where

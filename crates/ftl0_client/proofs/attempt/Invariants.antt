@@ -1,13 +1,6 @@
 -- What the loops of an attempt keep.
 use Rattle.std.proofs.Common.{ℕ, List}
-use Rattle.std.specs.Prelude.{Ok, ⊤}
-use Rattle.disk_model.specs.declared.disk.Disk.{Ghosts}
-use Rattle.ax25_link.specs.Ends.{free_octets}
-use Rattle.ftl0_packets.specs.Layout.{Item}
-use Rattle.packet_link.specs.PacketLink.{HasFront}
-use Rattle.ftl0_client.specs.Attempt.AttemptState.{AttemptState, Becomes, LeavesFit, Working}
-use Rattle.ftl0_client.specs.Attempt.Feeding.{KeepsUp, MayAnswer, Takes}
-use Rattle.ftl0_client.specs.Attempt.Settling.{queuing}
+use Rattle.ftl0_client.proofs.Names.{Ok, ⊤, Ghosts, free_octets, Item, HasFront, AttemptState, Becomes, LeavesFit, Working, KeepsUp, MayAnswer, Takes, queuing}
 
 -- Packets were taken from the front of the octets, and these are left.
 pub record IsTaking {D : Type 0} (g : Ghosts D) (octets left : List ℕ) (before now : Working D) : Type 0 where

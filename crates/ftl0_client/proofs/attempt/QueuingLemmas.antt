@@ -1,17 +1,6 @@
 -- The loop that queues what is due.
 use Rattle.std.proofs.Common.{◌≡◌, ⊎_elim, ℕ, ◌<◌, ◌≤◌, refl, ap, sym, ◌∙◌, subst}
-use Rattle.std.specs.Prelude.{None, false}
-use Rattle.ax25_link.specs.Ends.{free_octets}
-use Rattle.ax25_link.specs.Kept.{Kept}
-use Rattle.ax25_link.specs.Queue.{room_of}
-use Rattle.ax25_link.specs.Window.{Window}
-use Rattle.packet_link.proofs.Fronts.{stations-same, stations-then}
-use Rattle.packet_link.specs.Queuing.{enough_free}
-use Rattle.ftl0_job.specs.Due.{next_due}
-use Rattle.ftl0_client.specs.Attempt.Attempted.{Attempted}
-use Rattle.ftl0_client.specs.Attempt.AttemptState.{AttemptState, Becomes, IsAttempt}
-use Rattle.ftl0_client.specs.Attempt.Feeding.{KeepsFit, KeepsUp, QueuesNext, QueuesPacket}
-use Rattle.ftl0_client.specs.Attempt.Settling.{after_due, queuing}
+use Rattle.ftl0_client.proofs.Names.{None, false, free_octets, Kept, room_of, Window, stations-same, stations-then, enough_free, next_due, Attempted, AttemptState, Becomes, IsAttempt, KeepsFit, KeepsUp, QueuesNext, QueuesPacket, after_due, queuing}
 use Rattle.ftl0_client.proofs.attempt.SettlingLemmas.{queuing-few, queuing-next, queuing-none}
 
 -- what is queued of an attempt

@@ -1,30 +1,8 @@
 -- How an event comes to an outcome, packet by packet.
 use Rattle.std.proofs.Common.{◌≡◌, ℕ, Bool, true, false, List, [], ◌∷◌, ◌++◌, refl, ap, sym, ◌∙◌, subst}
-use Rattle.std.specs.Prelude.{Option, None, Some}
-use Rattle.std.specs.Option.{option_map}
-use Rattle.ax25_frames.specs.FrameText.{FrameValue}
-use Rattle.ax25_link.specs.declared.state.Why.{Why}
-use Rattle.ax25_link.specs.Rows.{after_frame, heard_of}
-use Rattle.ax25_link.specs.Window.{Window}
-use Rattle.ftl0_packets.specs.Items.{kind_of_item, texts}
-use Rattle.ftl0_packets.specs.Layout.{Item}
-use Rattle.packet_link.specs.Queuing.{fits}
-use Rattle.client_notes.specs.Command.{NotesCommand}
-use Rattle.client_notes.specs.Laws.{after_all}
-use Rattle.client_notes.specs.Notes.{Lists}
-use Rattle.ftl0_job.specs.declared.ending.Ending.{Ending}
 use Rattle.ftl0_job.specs.declared.ending.Outcome.{Outcome}
 use Rattle.ftl0_job.specs.declared.ending.Outcome.TheVariants as outcome
-use Rattle.ftl0_job.specs.declared.work.Work.{Work}
-use Rattle.ftl0_job.specs.Due.{DuePacket, due_by, in_job, work_due}
-use Rattle.ftl0_job.specs.Laws.{reached}
-use Rattle.ftl0_job.specs.Row.{Row, strange_ending}
-use Rattle.ftl0_job.specs.Table.{JobState, job_after, job_row, new_job, row_of}
-use Rattle.ftl0_client.specs.declared.attempt.outcome.AttemptOutcome.TheVariants.{Reached}
-use Rattle.ftl0_client.specs.Attempt.Attempted.{Attempted, outcome_by, outcome_of}
-use Rattle.ftl0_client.specs.Attempt.Hearing.{after_hearing, hearing, packets_heard, with_end}
-use Rattle.ftl0_client.specs.Attempt.Settling.{settled}
-use Rattle.ftl0_client.specs.Attempt.Taking.{Happened, after_replies, answering, taking, taking_by, taking_one}
+use Rattle.ftl0_client.proofs.Names.{Option, None, Some, option_map, FrameValue, Why, after_frame, heard_of, Window, kind_of_item, texts, Item, fits, NotesCommand, after_all, Lists, Ending, Work, DuePacket, due_by, in_job, work_due, reached, Row, strange_ending, JobState, job_after, job_row, new_job, row_of, Reached, Attempted, outcome_by, outcome_of, after_hearing, hearing, packets_heard, with_end, settled, Happened, after_replies, answering, taking, taking_by, taking_one}
 use Rattle.ftl0_client.proofs.attempt.EndedLemmas.{taking-ended, told-job}
 use Rattle.ftl0_client.proofs.attempt.SettlingLemmas.{settled-keeps}
 

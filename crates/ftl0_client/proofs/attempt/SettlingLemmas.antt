@@ -1,21 +1,7 @@
 -- How what is due is queued at the end of an event, one packet after another.
 use Rattle.std.proofs.Common.{◌≡◌, inl, inr, ℕ, ◌<◌, ◌≤◌, Bool, true, false, ◌&&◌, List, refl, subst, sym, arith}
-use Rattle.std.specs.Prelude.{Option, None, Some, if◌then◌else◌}
-use Rattle.std.proofs.lemmas.Bool.{cond_both}
-use Rattle.ax25_link.specs.Calls.{after_hang_up}
-use Rattle.ax25_link.specs.declared.state.LinkState.{LinkState}
-use Rattle.ax25_link.specs.Ends.{LinkEnd, free_octets}
-use Rattle.ax25_link.specs.Timer.{is_up}
-use Rattle.ftl0_packets.specs.Layout.{packet_text}
-use Rattle.packet_link.specs.Queuing.{enough_free}
-use Rattle.packet_link.proofs.Queuing.{filling-ends, filling-few, filling-keeps, filling-next, filling-none, packet-some, push-fewer}
-use Rattle.ftl0_job.specs.declared.ending.Ending.{Ending}
-use Rattle.ftl0_job.specs.declared.work.Work.{Work}
-use Rattle.ftl0_job.specs.Due.{DuePacket, PutsDue, due_by, next_due}
-use Rattle.ftl0_job.specs.Table.{JobState}
-use Rattle.ftl0_client.specs.Attempt.Attempted.{Attempted}
-use Rattle.ftl0_client.specs.Attempt.Laws.{IsQueued, QueuedLaw}
-use Rattle.ftl0_client.specs.Attempt.Settling.{after_due, is_all_free, is_later, parting_later, queuing, settled}
+use Rattle.std.specs.Prelude.{if◌then◌else◌}
+use Rattle.ftl0_client.proofs.Names.{Option, None, Some, cond_both, after_hang_up, LinkState, LinkEnd, free_octets, is_up, packet_text, enough_free, filling-ends, filling-few, filling-keeps, filling-next, filling-none, packet-some, push-fewer, Ending, Work, DuePacket, PutsDue, due_by, next_due, JobState, Attempted, IsQueued, QueuedLaw, after_due, is_all_free, is_later, parting_later, queuing, settled}
 
 -- the packet that was put
 pub due-put : (due : Option (DuePacket JobState)) (job job_n : JobState) (out out_n : List ℕ) → PutsDue due true job job_n out out_n

@@ -1,10 +1,6 @@
 -- The code's attempt stands for some attempt of the definitions.
 use Rattle.std.proofs.Common.{◌≡◌, ℕ, refl, sym, ◌∙◌, ap, subst}
-use Rattle.ax25_link.specs.Kept.{Kept, StandsFor}
-use Rattle.ax25_link.specs.Window.{Window, window_of}
-use Rattle.packet_link.specs.PacketLink.{StandsForSome}
-use Rattle.ftl0_client.specs.Attempt.Attempted.{Attempted}
-use Rattle.ftl0_client.specs.Attempt.AttemptState.{AttemptState, IsSomeAttempt}
+use Rattle.ftl0_client.proofs.Names.{Kept, StandsFor, Window, window_of, StandsForSome, Attempted, AttemptState, IsSomeAttempt}
 
 pub some-attempt : (attempt : AttemptState) → StandsForSome attempt.link → IsSomeAttempt attempt
 some-attempt attempt some =

@@ -1,32 +1,8 @@
 -- What stands of an attempt stands after each event, and once something became of it nothing more is noted.
 use Rattle.std.proofs.Common.{◌≡◌, ℕ, Bool, true, false, List, [], ◌∷◌, refl, ap, sym, ◌∙◌, subst}
-use Rattle.std.specs.Prelude.{Option, None, Some}
-use Rattle.ax25_link.specs.declared.state.Heard.{Heard}
-use Rattle.ax25_link.specs.declared.state.Why.{Why}
-use Rattle.ax25_link.specs.LinkStep.{heard_of_tick}
-use Rattle.ax25_link.specs.Rows.{after_frame, heard_of}
-use Rattle.ax25_link.specs.Timer.{after_tick, told_of_tick}
-use Rattle.ftl0_packets.specs.Items.{kind_of_item, texts}
-use Rattle.ftl0_packets.specs.Layout.{Item}
-use Rattle.packet_link.specs.Queuing.{fits}
-use Rattle.client_notes.specs.Command.{NotesCommand}
-use Rattle.client_notes.specs.Laws.{after_all}
-use Rattle.client_notes.specs.Notes.{Lists}
-use Rattle.client_notes.proofs.Offered.{after_all-append}
-use Rattle.ftl0_job.specs.declared.ending.Ending.{Ending}
 use Rattle.ftl0_job.specs.declared.ending.Outcome.TheVariants as outcome
-use Rattle.ftl0_job.specs.declared.work.Work.{Work}
 use Rattle.ftl0_job.specs.declared.work.Work.TheVariants as work
-use Rattle.ftl0_job.specs.Laws.{BegunLaw, DueLaw, PromisesLaw}
-use Rattle.ftl0_job.specs.Promises.{JobStands, WorkPromises}
-use Rattle.ftl0_job.specs.Row.{Row}
-use Rattle.ftl0_job.specs.Table.{JobState, job_after, job_row, listing_of}
-use Rattle.ftl0_client.specs.Attempt.Attempted.{Attempted, outcome_by}
-use Rattle.ftl0_client.specs.Attempt.Hearing.{after_hearing, after_ticking, after_told, hearing, packets_heard}
-use Rattle.ftl0_client.specs.Attempt.Hearing.{packets_told, with_end}
-use Rattle.ftl0_client.specs.Attempt.Laws.{CallingLaw, QuietLaw, StandsLaw}
-use Rattle.ftl0_client.specs.Attempt.Settling.{settled}
-use Rattle.ftl0_client.specs.Attempt.Taking.{Happened, after_replies, taking, taking_by, taking_one}
+use Rattle.ftl0_client.proofs.Names.{Option, None, Some, Heard, Why, heard_of_tick, after_frame, heard_of, after_tick, told_of_tick, kind_of_item, texts, Item, fits, NotesCommand, after_all, Lists, after_all-append, Ending, Work, BegunLaw, DueLaw, PromisesLaw, JobStands, WorkPromises, Row, JobState, job_after, job_row, listing_of, Attempted, outcome_by, after_hearing, after_ticking, after_told, hearing, packets_heard, packets_told, with_end, CallingLaw, QuietLaw, StandsLaw, settled, Happened, after_replies, taking, taking_by, taking_one}
 use Rattle.ftl0_client.proofs.attempt.DownLemmas.{outcome-law, still-silent}
 use Rattle.ftl0_client.proofs.attempt.EndedLemmas.{stays-law, told-job}
 use Rattle.ftl0_client.proofs.attempt.ToldLemmas.{heard-told, ticked-told}

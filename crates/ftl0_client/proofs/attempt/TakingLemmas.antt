@@ -1,15 +1,6 @@
 -- How packets are taken, some and then others.
 use Rattle.std.proofs.Common.{◌≡◌, List, [], ◌∷◌, ◌++◌, refl, ap, sym, ◌∙◌, append_assoc}
-use Rattle.std.specs.Prelude.{Option, None, Some}
-use Rattle.ftl0_packets.specs.Layout.{Item}
-use Rattle.client_notes.specs.Command.{NotesCommand}
-use Rattle.client_notes.specs.Laws.{after_all}
-use Rattle.client_notes.specs.Notes.{Lists}
-use Rattle.client_notes.proofs.Offered.{after_all-append}
-use Rattle.ftl0_job.specs.declared.ending.Ending.{Ending}
-use Rattle.ftl0_job.specs.Table.{job_row}
-use Rattle.ftl0_client.specs.Attempt.Attempted.{Attempted}
-use Rattle.ftl0_client.specs.Attempt.Taking.{Happened, after_noting, taking, taking_by, taking_one}
+use Rattle.ftl0_client.proofs.Names.{Option, None, Some, Item, NotesCommand, after_all, Lists, after_all-append, Ending, job_row, Attempted, Happened, after_noting, taking, taking_by, taking_one}
 
 -- commands that come before others
 after_noting-then : (first second : List NotesCommand) (happened : Happened) → after_noting first (after_noting second happened) ≡ after_noting (first ++ second) happened

@@ -1,43 +1,10 @@
 -- The end of an attempt's link is down only where something became of the attempt.
 use Rattle.std.proofs.Common.{◌≡◌, ◌≢◌, ◌⊎◌, inl, inr, ⊎_elim, ℕ, ◌+◌, ◌==◌, Bool, true, false, ◌&&◌, ◌||◌}
 use Rattle.std.proofs.Common.{List, [], ◌∷◌, refl, ap, sym, ◌∙◌, subst}
-use Rattle.std.specs.Prelude.{Option, None, Some, nat_lt, if◌then◌else◌}
-use Rattle.std.proofs.lemmas.Bool.{cond_both}
-use Rattle.ax25_frames.specs.FrameText.{FrameValue}
-use Rattle.ax25_frames.specs.declared.control.Control.{Control}
-use Rattle.ax25_frames.specs.declared.control.Control.TheVariants.{I, Rr, Rnr, Rej, Sabm, Disc, Dm, Ua, Frmr, Ui}
-use Rattle.ax25_link.specs.declared.state.Heard.{Heard}
-use Rattle.ax25_link.specs.declared.state.Heard.TheVariants.{Nothing, Opened, Reopened, Bytes, Closed}
-use Rattle.ax25_link.specs.declared.state.LinkState.{LinkState}
+use Rattle.std.specs.Prelude.{if◌then◌else◌}
 use Rattle.ax25_link.specs.declared.state.LinkState.TheVariants as link
-use Rattle.ax25_link.specs.declared.state.LinkState.TheVariants.{Down, Up}
-use Rattle.ax25_link.specs.declared.state.Why.{Why}
 use Rattle.ax25_link.specs.declared.state.Why.TheVariants as why
-use Rattle.ax25_link.specs.Acknowledging.{Meaning, applying, bad, good, is_bad, is_good, meaning_of, stale}
-use Rattle.ax25_link.specs.Calls.{after_push}
-use Rattle.ax25_link.specs.Ends.{LinkEnd, free_octets, high}
-use Rattle.ax25_link.specs.Frames.{receive_number}
-use Rattle.ax25_link.specs.LinkStep.{heard_of_tick}
-use Rattle.ax25_link.specs.Rows.{Outcome, after_frame, calling_row, ending_row, entering, heard_of, information_row}
-use Rattle.ax25_link.specs.Rows.{numbered_row, row_of_state, sending_again, supervisory_row, up_row, with_busy}
-use Rattle.ax25_link.specs.Timer.{after_tick, is_down, is_spent, is_up, runs_out, told_of_tick, trying}
-use Rattle.ax25_link.specs.Window.{Window}
-use Rattle.ftl0_packets.specs.Items.{kind_of_item, texts}
-use Rattle.ftl0_packets.specs.Layout.{Item}
-use Rattle.packet_link.specs.Queuing.{fits}
-use Rattle.client_notes.specs.Laws.{after_all}
-use Rattle.client_notes.specs.Notes.{Lists}
-use Rattle.ftl0_job.specs.declared.ending.Ending.{Ending}
-use Rattle.ftl0_job.specs.declared.work.Work.{Work}
-use Rattle.ftl0_job.specs.Row.{Row}
-use Rattle.ftl0_job.specs.Table.{job_after, job_row}
-use Rattle.ftl0_client.specs.Attempt.Attempted.{Attempted, outcome_by, outcome_of}
-use Rattle.ftl0_client.specs.Attempt.Hearing.{after_hearing, after_ticking, after_told, down_by, hearing, packets_heard}
-use Rattle.ftl0_client.specs.Attempt.Hearing.{ticking, with_end}
-use Rattle.ftl0_client.specs.Attempt.Settling.{is_all_free, is_later, parting_later}
-use Rattle.ftl0_client.specs.Attempt.Settling.{queuing, settled}
-use Rattle.ftl0_client.specs.Attempt.Taking.{Happened, after_replies, parting, replied, taking, taking_by}
-use Rattle.ftl0_client.specs.Attempt.Taking.{taking_one}
+use Rattle.ftl0_client.proofs.Names.{Option, None, Some, nat_lt, cond_both, FrameValue, Control, I, Rr, Rnr, Rej, Sabm, Disc, Dm, Ua, Frmr, Ui, Heard, Nothing, Opened, Reopened, Bytes, Closed, LinkState, Down, Up, Why, Meaning, applying, bad, good, is_bad, is_good, meaning_of, stale, after_push, LinkEnd, free_octets, high, receive_number, heard_of_tick, Outcome, after_frame, calling_row, ending_row, entering, heard_of, information_row, numbered_row, row_of_state, sending_again, supervisory_row, up_row, with_busy, after_tick, is_down, is_spent, is_up, runs_out, told_of_tick, trying, Window, kind_of_item, texts, Item, fits, after_all, Lists, Ending, Work, Row, job_after, job_row, Attempted, outcome_by, outcome_of, after_hearing, after_ticking, after_told, down_by, hearing, packets_heard, ticking, with_end, is_all_free, is_later, parting_later, queuing, settled, Happened, after_replies, parting, replied, taking, taking_by, taking_one}
 use Rattle.ftl0_client.proofs.attempt.SettlingLemmas.{queuing-keeps}
 
 -- ---- a link goes down only where that is told

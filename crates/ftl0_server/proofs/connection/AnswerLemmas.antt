@@ -1,34 +1,9 @@
 -- How a connection answers one packet.
-use Rattle.std.proofs.lemmas.Grind.{common_steps}
 use Rattle.std.proofs.Common.{◌≡◌, inl, inr, ap, ℕ, suc, ◌+◌, append-nil, Bool, true, false, not, List, [], ◌∷◌, ◌++◌, refl, sym, ◌∙◌, subst, arith}
-use Rattle.std.specs.Prelude.{Result, Ok, Err, ⊤, if◌then◌else◌}
-use Rattle.std.proofs.Math.Nat.{add-zero}
-use Rattle.disk_model.specs.declared.disk.Disk.{Ghosts}
-use Rattle.ax25_link.specs.Calls.{after_abandon, after_push}
-use Rattle.ax25_link.specs.Ends.{LinkEnd}
-use Rattle.ax25_link.specs.Kept.{StandsFor}
-use Rattle.ax25_link.specs.Window.{Window}
-use Rattle.ftl0_packets.specs.Items.{texts}
-use Rattle.ftl0_packets.specs.Layout.{Item}
-use Rattle.file_store.specs.Command.{after_all}
-use Rattle.file_store.specs.State.{IsKnown, IsReady, store_in, store_on}
-use Rattle.file_store.specs.Store.{Store}
-use Rattle.file_store.specs.Working.{CutsOffAmongReads, DoesAmongReads, one_if}
-use Rattle.file_store.proofs.Offered.{among-at, among-same, among-store, does-among, Does-none, known_back, on_untold}
-use Rattle.ftl0_session.specs.Uploads.Failures.{Failure, failed_reads, failed_write, read_fails, write_fails}
-use Rattle.disk_model.specs.declared.disk.DiskFault.{DiskFault}
-use Rattle.ftl0_session.specs.SessionState.{SessionState, WorkingOn, caller_of, state_in}
-use Rattle.ftl0_session.specs.Table.{Row, failed_reads_told, session_row}
+use Rattle.std.specs.Prelude.{if◌then◌else◌}
 use Rattle.ftl0_session.specs.Taking.{Answers, AnswersAnyway, LooksAtNone, PutsRow, TakesPacket, TellsRead, at_work, packet_row, working}
-use Rattle.disk_model.specs.AtDisk.{at}
 use Rattle.ftl0_session.specs.Uploads.Events.{packet_of}
-use Rattle.ftl0_session.proofs.WorkingLemmas.{told-is}
-use Rattle.ftl0_server.specs.declared.connection.fate.Fate.{Fate}
-use Rattle.ftl0_server.specs.declared.connection.fate.Fate.TheVariants.{Stays, Ends}
-use Rattle.ftl0_server.specs.Connection.ConnectionState.{ConnectionState, HearsBy, is_over, none_left}
-use Rattle.ftl0_server.specs.Connection.Feeding.{IsAmong, IsSeen, TakesPackets, session_on, taking_some}
-use Rattle.ftl0_server.specs.Connection.Hearing.{progressed}
-use Rattle.ftl0_server.specs.Connection.Taking.{LookAtNone, Progress, fits, replied, resting, taking}
+use Rattle.ftl0_server.proofs.Names.{common_steps, Result, Ok, Err, ⊤, add-zero, Ghosts, after_abandon, after_push, LinkEnd, StandsFor, Window, texts, Item, after_all, IsKnown, IsReady, store_in, store_on, Store, CutsOffAmongReads, DoesAmongReads, one_if, among-at, among-same, among-store, does-among, Does-none, known_back, on_untold, Failure, failed_reads, failed_write, read_fails, write_fails, DiskFault, SessionState, WorkingOn, caller_of, state_in, Row, failed_reads_told, session_row, at, told-is, Fate, Stays, Ends, ConnectionState, HearsBy, is_over, none_left, IsAmong, IsSeen, TakesPackets, session_on, taking_some, progressed, LookAtNone, Progress, fits, replied, resting, taking}
 use Rattle.ftl0_server.proofs.connection.FailureLemmas.{All-at, at_part, none-writes, one-writes, reads-at, writes-at, writes-none}
 use Rattle.ftl0_server.proofs.connection.TakingLemmas.{by_tests}
 

@@ -1,31 +1,8 @@
 -- How a connection queues what is due, behind the packets of a frame.
-use Rattle.std.proofs.lemmas.Grind.{common_steps}
 use Rattle.std.proofs.Common.{◌≡◌, ◌⊎◌, inl, inr, ℕ, suc, ◌+◌, ◌<◌, ◌≤◌, Bool, true, false, List, [], ◌++◌, refl, ap, sym, ◌∙◌, subst, arith, append-nil}
-use Rattle.std.specs.Prelude.{All, None, Some, Result, Ok, ⊤}
-use Rattle.std.proofs.Math.Nat.{add-zero, add_assoc}
-use Rattle.std.proofs.lemmas.List.Elements.{All-append, All-nil, All-weaker}
-use Rattle.disk_model.specs.declared.disk.Disk.{Ghosts}
-use Rattle.ax25_link.specs.Ends.{free_octets}
-use Rattle.ax25_link.specs.Kept.{Kept, StandsFor}
-use Rattle.ax25_link.specs.Window.{Window}
-use Rattle.file_store.specs.Command.{after_all}
-use Rattle.file_store.specs.State.{IsKnown, IsReady, StoreState, store_on}
-use Rattle.file_store.specs.Store.{Store}
-use Rattle.file_store.specs.Working.{DoesAmongReads, one_if}
-use Rattle.file_store.proofs.Offered.{among-at, among-same, among-store, among-then, does-among, Does-none, known_on, puts-among-then}
-use Rattle.ftl0_session.specs.Uploads.Failures.{Failure, failed_reads, read_fails}
-use Rattle.disk_model.specs.declared.disk.DiskFault.{DiskFault}
-use Rattle.ftl0_session.specs.SessionState.{WorkingOn, state_in}
-use Rattle.ftl0_session.specs.Table.{DuePacket, State, due_at, next_due, tells_failed_read}
-use Rattle.disk_model.specs.AtDisk.{AtDisk}
-use Rattle.ftl0_server.specs.declared.connection.fate.Fate.{Fate}
-use Rattle.ftl0_server.specs.declared.connection.fate.Fate.TheVariants.{Stays}
-use Rattle.ftl0_server.specs.Connection.ConnectionState.{ConnectionState, Hears, HearsBy}
-use Rattle.ftl0_server.specs.Connection.Feeding.{AreFree, HearsParts, IsNothingDue, KeepsFit, Queued, QueuesBy, QueuesDue, QueuesPacket}
-use Rattle.ftl0_server.specs.Connection.Hearing.{NoneDue, progressed}
-use Rattle.ftl0_server.specs.Connection.Taking.{Progress, after_due, enough_free, fails, queued, queuing}
+use Rattle.ftl0_server.specs.Connection.ConnectionState.{Hears}
+use Rattle.ftl0_server.proofs.Names.{common_steps, All, None, Some, Result, Ok, ⊤, add-zero, add_assoc, All-append, All-nil, All-weaker, Ghosts, free_octets, Kept, StandsFor, Window, after_all, IsKnown, IsReady, StoreState, store_on, Store, DoesAmongReads, one_if, among-at, among-same, among-store, among-then, does-among, Does-none, known_on, puts-among-then, Failure, failed_reads, read_fails, DiskFault, WorkingOn, state_in, DuePacket, State, due_at, next_due, tells_failed_read, AtDisk, Fate, Stays, ConnectionState, HearsBy, AreFree, HearsParts, IsNothingDue, KeepsFit, Queued, QueuesBy, QueuesDue, QueuesPacket, NoneDue, progressed, Progress, after_due, enough_free, fails, queued, queuing, stations-then}
 use Rattle.ftl0_server.proofs.connection.FailureLemmas.{alike-second, All-at, among-at as among-one, among-first, at_part, none-writes, reads-among}
-use Rattle.packet_link.proofs.Fronts.{stations-then}
 use Rattle.ftl0_server.proofs.connection.HearsLemmas.{IsStop}
 use Rattle.ftl0_server.proofs.connection.QueuingLemmas.{KeepsRest, queued-keeps, queued-on, queuing-alike, queuing-fewer, queuing-keeps, queuing-next, queuing-none}
 

@@ -1,15 +1,9 @@
 -- Which parts failures list.
-use Rattle.std.proofs.lemmas.Grind.{common_steps}
 use Rattle.std.proofs.Common.{◌≡◌, ◌≢◌, ℕ, ◌<◌, ◌≤◌, Bool, true, false, List, [], ◌∷◌, ◌++◌, refl, ap, sym, ◌∙◌, arith, ⊎_elim}
-use Rattle.std.specs.Prelude.{All, ◌==◌, ◌||◌, if◌then◌else◌}
-use Rattle.std.specs.List.{AllByRecursion}
-use Rattle.std.proofs.lemmas.Bool.{eq-eqb, eqb-true}
-use Rattle.std.proofs.lemmas.Bool.Decides.{eqb_tells}
-use Rattle.std.proofs.lemmas.List.Elements.{All-cons, All-nil, recursion_from_All}
+use Rattle.std.specs.Prelude.{◌==◌, ◌||◌, if◌then◌else◌}
 use Rattle.std.proofs.lemmas.List.Folds.{list_any-append}
 use Rattle.std.proofs.Math.Bool.{or-false}
-use Rattle.ftl0_session.specs.Uploads.Failures.{Failure, failed_reads, failed_write, read_fails, write_fails}
-use Rattle.ftl0_session.proofs.WorkingLemmas.{is_among, reads-behind, reads-listed, write-listed, write-unread, writes-behind, writes-unlisted}
+use Rattle.ftl0_server.proofs.Names.{common_steps, All, AllByRecursion, eq-eqb, eqb-true, eqb_tells, All-cons, All-nil, recursion_from_All, Failure, failed_reads, failed_write, read_fails, write_fails, is_among, reads-behind, reads-listed, write-listed, write-unread, writes-behind, writes-unlisted}
 
 not-equal : (a b : ℕ) → a ≢ b → (a == b) ≡ false
 not-equal a b ne = ⊎_elim (λ (w : ((a == b) ≡ true) × (a ≡ b)). absurd (ne w.1)) (λ (w : ((a == b) ≡ false) × (a ≢ b)). w.0) (eqb_tells a b)

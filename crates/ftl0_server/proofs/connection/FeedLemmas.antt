@@ -1,29 +1,8 @@
 -- What packets leave for the next one, and how a connection takes octets, piece by piece.
-use Rattle.std.proofs.lemmas.Grind.{common_steps}
 use Rattle.std.proofs.Common.{arith, ◌≡◌, ℕ, ◌+◌, List, [], ◌∷◌, ◌++◌, length, refl, ap, sym, ◌∙◌, subst}
-use Rattle.std.specs.Prelude.{None, Result, Ok, IsErr, ⊤}
-use Rattle.std.proofs.lemmas.List.Elements.{All-nil}
-use Rattle.disk_model.specs.declared.disk.Disk.{Ghosts}
-use Rattle.ax25_link.specs.declared.state.LinkState.TheVariants.{Up, Down}
-use Rattle.ax25_link.specs.Kept.{Kept, SameStations}
-use Rattle.ftl0_packets.specs.Layout.{Item}
-use Rattle.packet_link.specs.PacketLink.{HasFront}
-use Rattle.packet_link.proofs.Fronts.{front-none, front-then, stations-same, stations-then}
-use Rattle.file_store.specs.Store.{Store, entry_of}
-use Rattle.file_store.specs.Position.{Position}
-use Rattle.file_store.proofs.Offered.{does-among, Does-none, in_parked, puts-among, puts-among-same, puts-among-then, puts_none, stands_parked}
-use Rattle.file_store.specs.State.{StoreState, store_in}
-use Rattle.ftl0_session.specs.Uploads.Others.{KeepsOtherCallers}
-use Rattle.disk_model.specs.AtDisk.{AtDisk, at}
-use Rattle.ftl0_session.specs.Uploads.SessionState.{NoOtherOut, SessionState as Uploading}
-use Rattle.ftl0_session.specs.Downloads.Needs.{AreComplete}
-use Rattle.disk_model.specs.declared.disk.DiskFault.{DiskFault}
-use Rattle.ftl0_session.specs.SessionState.{MayTake as SessionMayTake, SessionState, caller_of, new_session, WorkingOn, working_on}
-use Rattle.ftl0_server.specs.declared.connection.fate.Fate.{Fate}
-use Rattle.ftl0_server.specs.declared.connection.fate.Fate.TheVariants.{Stays, Ends}
-use Rattle.ftl0_server.specs.AtPlace.{GivesUp}
-use Rattle.ftl0_server.specs.Connection.ConnectionState.{ConnectionState}
-use Rattle.ftl0_server.specs.Connection.Feeding.{Feeds, FeedsAll, IsAmong, IsGoing, KeepsFit, LeavesFit, MayQueue, MayTake, TakesSome, carrying}
+use Rattle.ftl0_session.specs.Uploads.SessionState.{SessionState as Uploading}
+use Rattle.ftl0_session.specs.SessionState.{MayTake as SessionMayTake}
+use Rattle.ftl0_server.proofs.Names.{common_steps, None, Result, Ok, IsErr, ⊤, All-nil, Ghosts, Up, Down, Kept, SameStations, Item, HasFront, front-none, front-then, stations-same, stations-then, Store, entry_of, Position, does-among, Does-none, in_parked, puts-among, puts-among-same, puts-among-then, puts_none, stands_parked, StoreState, store_in, KeepsOtherCallers, AtDisk, at, NoOtherOut, AreComplete, DiskFault, SessionState, caller_of, new_session, WorkingOn, working_on, Fate, Stays, Ends, GivesUp, ConnectionState, Feeds, FeedsAll, IsAmong, IsGoing, KeepsFit, LeavesFit, MayQueue, MayTake, TakesSome, carrying}
 use Rattle.ftl0_server.proofs.connection.HearsLemmas.{IsStop, seen-first, seen-then, takes-then}
 use Rattle.ftl0_server.proofs.connection.Invariants.{IsTaking}
 

@@ -1,39 +1,6 @@
 -- How a connection hears a frame.
-use Rattle.std.proofs.lemmas.Grind.{common_steps}
 use Rattle.std.proofs.Common.{arith, ◌≡◌, ◌⊎◌, inl, inr, ℕ, ◌<◌, true, false, List, [], ◌++◌, refl, ap, sym, ◌∙◌, subst}
-use Rattle.std.specs.Prelude.{Result, Ok, ⊤}
-use Rattle.std.proofs.lemmas.List.Elements.{All-nil}
-use Rattle.px_base.specs.CallSign.{CallSign}
-use Rattle.ax25_frames.specs.FrameText.{FrameValue}
-use Rattle.disk_model.specs.declared.disk.Disk.{Ghosts}
-use Rattle.ax25_link.specs.declared.state.Heard.{Heard}
-use Rattle.ax25_link.specs.declared.state.Heard.TheVariants.{Bytes, Closed, Nothing, Opened, Reopened}
-use Rattle.ax25_link.specs.Ends.{LinkEnd}
-use Rattle.ax25_link.specs.Kept.{Kept, StandsFor, Tells}
-use Rattle.ax25_link.specs.Rows.{after_frame, heard_of}
-use Rattle.ax25_link.specs.Window.{Window}
-use Rattle.ftl0_packets.specs.Reading.{packets_of, rest_of}
-use Rattle.ftl0_session.specs.Lists.Lists.{CallerList, has_left}
-use Rattle.file_store.specs.State.{IsReady, StoreState, store_on}
-use Rattle.file_store.specs.Store.{Store}
-use Rattle.file_store.specs.Working.{DoesAmongReads}
-use Rattle.file_store.proofs.Offered.{among-parked, does-among, Does-none, on_parked}
-use Rattle.ftl0_session.specs.declared.uploads.phase.Phase.{Phase}
-use Rattle.disk_model.specs.AtDisk.{at}
-use Rattle.ftl0_session.specs.Uploads.Failures.{Failure, write_fails}
-use Rattle.ftl0_session.specs.Uploads.SessionState.{Parks}
-use Rattle.disk_model.specs.declared.disk.DiskFault.{DiskFault}
-use Rattle.ftl0_session.specs.Table.{State}
-use Rattle.ftl0_session.specs.SessionState.{WorkingOn, working_on}
-use Rattle.ftl0_session.specs.Run.{session_over}
-use Rattle.ftl0_server.specs.declared.connection.fate.Fate.{Fate}
-use Rattle.ftl0_server.specs.declared.connection.fate.Fate.TheVariants.{Stays, Ends}
-use Rattle.ftl0_server.specs.AtPlace.{GivesUp}
-use Rattle.ftl0_server.specs.Connection.Connected.{Connected, beginning}
-use Rattle.ftl0_server.specs.Connection.ConnectionState.{ConnectionState, IsConnection}
-use Rattle.ftl0_server.specs.Connection.Feeding.{HearsParts}
-use Rattle.ftl0_server.specs.Connection.Hearing.{LooksAtNoneAs, NoneDue, NoneDueBehind, parts_as, rest_as, with_end}
-use Rattle.ftl0_server.specs.Connection.Taking.{resting, taking}
+use Rattle.ftl0_server.proofs.Names.{common_steps, Result, Ok, ⊤, All-nil, CallSign, FrameValue, Ghosts, Heard, Bytes, Closed, Nothing, Opened, Reopened, LinkEnd, Kept, StandsFor, Tells, after_frame, heard_of, Window, packets_of, rest_of, CallerList, has_left, IsReady, StoreState, store_on, Store, DoesAmongReads, among-parked, does-among, Does-none, on_parked, Phase, at, Failure, write_fails, Parks, DiskFault, State, WorkingOn, working_on, session_over, Fate, Stays, Ends, GivesUp, Connected, beginning, ConnectionState, IsConnection, HearsParts, LooksAtNoneAs, NoneDue, NoneDueBehind, parts_as, rest_as, with_end, resting, taking}
 use Rattle.ftl0_server.proofs.connection.TakingLemmas.{looks-same}
 
 -- the session's upload was given up

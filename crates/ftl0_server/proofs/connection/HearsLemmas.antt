@@ -1,32 +1,8 @@
 -- How what packets make of a connection is put together.
-use Rattle.std.proofs.lemmas.Grind.{common_steps}
 use Rattle.std.proofs.Common.{◌≡◌, inl, inr, ℕ, ◌+◌, ◌<◌, ◌≤◌, Bool, true, false, not, ◌&&◌, List, [], ◌++◌, length, refl, ap, sym, ◌∙◌, subst, arith, length-append}
-use Rattle.std.specs.Prelude.{All, Result, Ok, Err, ⊤}
-use Rattle.std.proofs.lemmas.List.Elements.{All-append, All-weaker}
-use Rattle.px_base.specs.CallSign.{CallSign}
-use Rattle.disk_model.specs.declared.disk.Disk.{Ghosts}
-use Rattle.ax25_link.specs.Ends.{LinkEnd}
-use Rattle.ax25_link.specs.Kept.{StandsFor}
-use Rattle.ax25_link.specs.Window.{Window}
-use Rattle.ftl0_packets.specs.Layout.{Item}
 use Rattle.file_store.specs.Calls.{Leaves}
-use Rattle.file_store.specs.Command.{Command, after_all}
-use Rattle.file_store.specs.Store.{Store}
 use Rattle.file_store.specs.OnDisk.{MakesFirst}
-use Rattle.file_store.specs.State.{StoreState, store_on}
-use Rattle.file_store.proofs.Offered.{after_all-append, among-then, cuts-among-all, cuts-among-then, known_back, known_on, makes-first, makes-within, told_weaker, weaker}
-use Rattle.ftl0_session.specs.Uploads.Failures.{Failure, failed_reads, failed_write, write_fails}
-use Rattle.disk_model.specs.declared.disk.DiskFault.{DiskFault}
-use Rattle.ftl0_session.specs.SessionState.{SessionState, WorkingOn, caller_of}
-use Rattle.ftl0_session.specs.Table.{State}
-use Rattle.disk_model.specs.AtDisk.{AtDisk, at}
-use Rattle.ftl0_session.specs.Run.{Session}
-use Rattle.ftl0_server.specs.declared.connection.fate.Fate.{Fate}
-use Rattle.ftl0_server.specs.declared.connection.fate.Fate.TheVariants.{Ends, Stays}
-use Rattle.ftl0_server.specs.Connection.ConnectionState.{ConnectionState, HearsBy, StandsAfter, none_left, with_reads}
-use Rattle.ftl0_server.specs.Connection.Feeding.{HearsParts, IsAmong, IsGoing, IsSeen, TakesPackets, session_on, taking_some}
-use Rattle.ftl0_server.specs.Connection.Hearing.{Happened, progressed}
-use Rattle.ftl0_server.specs.Connection.Taking.{Halt, LookAtNone, Progress, fails, goes_on, taking}
+use Rattle.ftl0_server.proofs.Names.{common_steps, All, Result, Ok, Err, ⊤, All-append, All-weaker, CallSign, Ghosts, LinkEnd, StandsFor, Window, Item, Command, after_all, Store, StoreState, store_on, after_all-append, among-then, cuts-among-all, cuts-among-then, known_back, known_on, makes-first, makes-within, told_weaker, weaker, Failure, failed_reads, failed_write, write_fails, DiskFault, SessionState, WorkingOn, caller_of, State, AtDisk, at, Session, Fate, Ends, Stays, ConnectionState, HearsBy, StandsAfter, none_left, with_reads, HearsParts, IsAmong, IsGoing, IsSeen, TakesPackets, session_on, taking_some, Happened, progressed, Halt, LookAtNone, Progress, fails, goes_on, taking}
 use Rattle.ftl0_server.proofs.connection.FailureLemmas.{AreWrites, alike-first, alike-second, none-writes, one-writes, other-part, reads-among, same-part, writes-none}
 use Rattle.ftl0_server.proofs.connection.TakingLemmas.{IsFront, behind, going, is_going, looks-first, looks-on, on_from, taking-alike, taking-begins, taking-ended, taking-failed, taking-fails, taking-on, taking-part}
 

@@ -1,13 +1,6 @@
 -- What the loops of a connection keep.
 use Rattle.std.proofs.Common.{ℕ}
-use Rattle.std.specs.Prelude.{Ok}
-use Rattle.disk_model.specs.declared.disk.Disk.{Ghosts}
-use Rattle.disk_model.specs.AtDisk.{at}
-use Rattle.ftl0_session.specs.SessionState.{WorkingOn}
-use Rattle.file_store.specs.State.{StoreState}
-use Rattle.ftl0_server.specs.declared.connection.fate.Fate.TheVariants.{Stays}
-use Rattle.ftl0_server.specs.Connection.ConnectionState.{ConnectionState}
-use Rattle.ftl0_server.specs.Connection.Feeding.{Feeds, KeepsFit, LeavesFit, QueuesDue}
+use Rattle.ftl0_server.proofs.Names.{Ok, Ghosts, at, WorkingOn, StoreState, Stays, ConnectionState, Feeds, KeepsFit, LeavesFit, QueuesDue}
 
 -- From old to new packets were taken from the front of the octets, and these are left.
 pub record IsTaking {D : Type 0} (g : Ghosts D) (moment : ℕ) (old new : ConnectionState) (before now : WorkingOn D) : Type 0 where

@@ -1,24 +1,6 @@
 -- What the packets of the octets of a frame make of a connection.
-use Rattle.std.proofs.lemmas.Grind.{common_steps}
 use Rattle.std.proofs.Common.{arith, ◌≡◌, ◌⊎◌, inl, inr, ℕ, List, ◌++◌, sym, subst}
-use Rattle.std.specs.Prelude.{Result, ⊤}
-use Rattle.px_base.specs.CallSign.{CallSign}
-use Rattle.disk_model.specs.declared.disk.Disk.{Ghosts}
-use Rattle.ax25_link.specs.Window.{Window}
-use Rattle.ftl0_packets.specs.Layout.{Item}
-use Rattle.ftl0_packets.specs.Reading.{packets_of, rest_of}
-use Rattle.packet_link.proofs.Fronts.{front-whole}
-use Rattle.file_store.specs.State.{IsKnown, store_on}
-use Rattle.disk_model.specs.declared.disk.DiskFault.{DiskFault}
-use Rattle.ftl0_session.specs.SessionState.{WorkingOn, caller_of, state_in}
-use Rattle.ftl0_session.specs.Table.{State}
-use Rattle.disk_model.specs.AtDisk.{at}
-use Rattle.ftl0_session.specs.Run.{session_over}
-use Rattle.ftl0_server.specs.declared.connection.fate.Fate.{Fate}
-use Rattle.ftl0_server.specs.Connection.Connected.{Connected}
-use Rattle.ftl0_server.specs.Connection.ConnectionState.{ConnectionState, IsConnection}
-use Rattle.ftl0_server.specs.Connection.Feeding.{FeedsAll, HearsParts, IsGoing, IsSeen, carrying}
-use Rattle.ftl0_server.specs.Connection.Taking.{LookAtNone, taking}
+use Rattle.ftl0_server.proofs.Names.{common_steps, Result, ⊤, CallSign, Ghosts, Window, Item, packets_of, rest_of, front-whole, IsKnown, store_on, DiskFault, WorkingOn, caller_of, state_in, State, at, session_over, Fate, Connected, ConnectionState, IsConnection, FeedsAll, HearsParts, IsGoing, IsSeen, carrying, LookAtNone, taking}
 use Rattle.ftl0_server.proofs.KnownLemmas.{known-or-not}
 use Rattle.ftl0_server.proofs.connection.HearsLemmas.{IsStop, parts-stopped, parts-whole, seen-first}
 

@@ -1,17 +1,8 @@
 -- How what is due is queued, one packet after another.
-use Rattle.std.proofs.lemmas.Grind.{common_steps}
 use Rattle.std.proofs.Common.{◌≡◌, inl, inr, ℕ, ◌<◌, ◌≤◌, Bool, false, List, refl, ap, arith}
-use Rattle.std.specs.Prelude.{Option, None, Some, if◌then◌else◌}
-use Rattle.ax25_link.specs.Ends.{LinkEnd, free_octets}
-use Rattle.ftl0_packets.specs.Layout.{packet_text}
+use Rattle.std.specs.Prelude.{if◌then◌else◌}
 use Rattle.packet_link.proofs.Queuing.{filling-alike, filling-ends, filling-few, filling-keeps, filling-next, filling-none, packet-some, push-fewer}
-use Rattle.file_store.specs.Command.{after_all}
-use Rattle.file_store.specs.Store.{Store}
-use Rattle.ftl0_session.specs.Uploads.Failures.{Failure, read_fails}
-use Rattle.ftl0_session.specs.Table.{DuePacket, due_at, next_due}
-use Rattle.ftl0_session.proofs.WorkingLemmas.{none-whatever}
-use Rattle.ftl0_server.specs.Connection.Laws.{IsQueued, QueuedLaw}
-use Rattle.ftl0_server.specs.Connection.Taking.{Progress, after_due, enough_free, queued, queuing}
+use Rattle.ftl0_server.proofs.Names.{common_steps, Option, None, Some, LinkEnd, free_octets, packet_text, after_all, Store, Failure, read_fails, DuePacket, due_at, next_due, none-whatever, IsQueued, QueuedLaw, Progress, after_due, enough_free, queued, queuing}
 
 -- fewer octets are free behind a packet
 due-fewer : (progress : Progress) (due : DuePacket) → enough_free ≤ free_octets progress.end → free_octets (after_due due progress).end < free_octets progress.end

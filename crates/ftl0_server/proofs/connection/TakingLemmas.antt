@@ -1,21 +1,7 @@
 -- How taking packets goes on, and how it stops.
 use Rattle.std.proofs.Common.{rules, ◌≡◌, ℕ, suc, ◌+◌, ◌≤◌, Bool, true, false, not, ◌&&◌, List, [], ◌∷◌, ◌++◌, length, refl, ap, sym, ◌∙◌, append-nil, arith}
-use Rattle.std.proofs.lemmas.Grind.{common_steps}
 use Rattle.std.specs.Prelude.{if◌then◌else◌}
-use Rattle.std.proofs.Math.Nat.{zero-add}
-use Rattle.px_base.specs.CallSign.{CallSign}
-use Rattle.ax25_link.specs.Calls.{after_push}
-use Rattle.ax25_link.specs.Ends.{LinkEnd}
-use Rattle.ftl0_packets.specs.Layout.{Item}
-use Rattle.ftl0_packets.specs.Items.{texts}
-use Rattle.file_store.specs.Command.{Command, after_all}
-use Rattle.file_store.specs.Store.{Store}
-use Rattle.file_store.proofs.Offered.{after_all-append}
-use Rattle.ftl0_session.specs.Uploads.Failures.{Failure, read_fails, write_fails}
-use Rattle.ftl0_session.specs.Table.{Row, row_at}
-use Rattle.ftl0_session.specs.Run.{Session, session_over}
-use Rattle.ftl0_server.specs.Connection.Laws.{TakingLaw}
-use Rattle.ftl0_server.specs.Connection.Taking.{Halt, LookAtNone, Progress, after_row, failing_at, fails, fits, giving_up, goes_on, taking, taking_row}
+use Rattle.ftl0_server.proofs.Names.{common_steps, zero-add, CallSign, after_push, LinkEnd, Item, texts, Command, after_all, Store, after_all-append, Failure, read_fails, write_fails, Row, row_at, Session, session_over, TakingLaw, Halt, LookAtNone, Progress, after_row, failing_at, fails, fits, giving_up, goes_on, taking, taking_row}
 use Rattle.ftl0_server.proofs.connection.FailureLemmas.{AreAlike}
 
 -- whether nothing stopped the taking

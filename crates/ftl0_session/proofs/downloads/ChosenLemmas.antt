@@ -1,18 +1,6 @@
 -- The complete files of which a selection holds, one after another in rising number.
 use Rattle.std.proofs.Common.{◌≡◌, ℕ, ◌+◌, ◌≤◌, ◌<◌, List, [], ◌∷◌, ◌++◌, length, map, Bool, true, false, cond, Option, None, Some, refl, sym, ap, ◌∙◌, arith, inl, inr, append_assoc}
-use Rattle.std.specs.Prelude.{find, filter, nat_lt}
-use Rattle.std.specs.List.{AllByRecursion}
-use Rattle.std.proofs.lemmas.Bool.Decides.{eqb_tells, nat_tests}
-use Rattle.std.proofs.lemmas.Bool.{cases_lt}
-use Rattle.std.proofs.lemmas.List.{append-nil}
-use Rattle.selection.specs.Layout.{Tree}
-use Rattle.selection.specs.Meaning.{holds}
-use Rattle.file_store.specs.Headers.{header_items}
-use Rattle.file_store.specs.Info.{IsCompleteIn, IsNextComplete, is_complete}
-use Rattle.file_store.specs.IsStore.{AreEntries, IsStore}
-use Rattle.file_store.specs.Store.{Entry, Store, entry_of, octets_at}
-use Rattle.file_store.proofs.Offered.{found-fits, found-number, has_number}
-use Rattle.ftl0_session.specs.Downloads.Table.{chosen, is_chosen, octets_in}
+use Rattle.ftl0_session.proofs.Names.{find, filter, nat_lt, AllByRecursion, eqb_tells, nat_tests, cases_lt, append-nil, Tree, holds, header_items, IsCompleteIn, IsNextComplete, is_complete, AreEntries, IsStore, Entry, Store, entry_of, octets_at, found-fits, found-number, has_number, chosen, is_chosen, octets_in}
 
 -- the entries with a number above this one
 abbrev pub above_of : ℕ → List Entry → List Entry

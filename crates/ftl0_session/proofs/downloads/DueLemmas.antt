@@ -1,16 +1,7 @@
 -- What is due, and what is left of it once octets were sent.
 use Rattle.std.proofs.Common.{◌≡◌, ℕ, zero, suc, ◌+◌, ◌-◌, ◌≤◌, ◌<◌, min, List, [], ◌∷◌, ◌++◌, length, map, get_or, take, drop, refl, sym, ap, ◌∙◌, append_assoc, arith, inl, inr, true, length-append, length-drop, drop-cons, add-one}
-use Rattle.std.proofs.Math.Seq.{take-append-add, drop-append-add, take-length, drop-length}
-use Rattle.std.proofs.lemmas.Bool.{cases_lt}
 use Rattle.std.proofs.lemmas.Grind.{common_steps}
-use Rattle.std.proofs.lemmas.List.{drop-append-le, drop-drop, drop-take, length-take, flat_map_more, map-append, take-append-le, take_min, take_more}
-use Rattle.std.specs.List.{AllByRecursion, flat_map, list_any}
-use Rattle.file_store.specs.Info.{IsCompleteIn}
-use Rattle.file_store.specs.EntriesKept.{KeepsComplete}
-use Rattle.file_store.specs.Store.{Store, entry_of, octets_at}
-use Rattle.ftl0_session.specs.Downloads.Needs.{AreStored, IsDueIn, IsStored, LiesIn}
-use Rattle.ftl0_session.specs.Downloads.Sending.{after_octets, due_len, due_octets, is_stored, joined, moved, octets_due, state_after, state_at_end}
-use Rattle.ftl0_session.specs.Downloads.Table.{DownloadState, Due, kept, listing, octets_in, ready, sending, stored, waiting}
+use Rattle.ftl0_session.proofs.Names.{take-append-add, drop-append-add, take-length, drop-length, cases_lt, drop-append-le, drop-drop, drop-take, length-take, flat_map_more, map-append, take-append-le, take_min, take_more, AllByRecursion, flat_map, list_any, IsCompleteIn, KeepsComplete, Store, entry_of, octets_at, AreStored, IsDueIn, IsStored, LiesIn, after_octets, due_len, due_octets, is_stored, joined, moved, octets_due, state_after, state_at_end, DownloadState, Due, kept, listing, octets_in, ready, sending, stored, waiting}
 
 -- ---- fronts and rests of lists
 

@@ -1,13 +1,6 @@
 -- Complete files of the store.
 use Rattle.std.proofs.Common.{◌≡◌, ℕ, List, [], ◌∷◌, Bool, true, false, ◌&&◌, Option, None, Some, refl, sym, ap, ◌∙◌}
-use Rattle.std.specs.Prelude.{is_some}
-use Rattle.std.specs.List.{list_all}
-use Rattle.std.specs.Option.{option_and_then}
-use Rattle.std.proofs.lemmas.List.Elements.{All-cons, All-nil}
-use Rattle.file_store.specs.Info.{IsCompleteIn, is_complete}
-use Rattle.file_store.specs.Store.{Entry, Holding, Store, complete, entry_of, octets_at, octets_of, partial}
-use Rattle.ftl0_session.specs.Downloads.Needs.{AreFiles}
-use Rattle.ftl0_session.specs.Downloads.Table.{complete_octets, file_of, has_file, octets_in}
+use Rattle.ftl0_session.proofs.Names.{is_some, list_all, option_and_then, All-cons, All-nil, IsCompleteIn, is_complete, Entry, Holding, Store, complete, entry_of, octets_at, octets_of, partial, AreFiles, complete_octets, file_of, has_file, octets_in}
 
 -- the octets of the file of an entry, if it is complete
 abbrev pub file_in : Option Entry → Option (List ℕ)

@@ -1,26 +1,10 @@
 -- What downloading makes of two stores that are like each other but for the octets of their files.
 use Rattle.std.proofs.Common.{◌≡◌, ℕ, ◌==◌, ◌<◌, List, [], ◌∷◌, length, Bool, true, false, true≢false, ◌&&◌, Option, None, Some, refl, sym, ap, ap₂, ◌∙◌, arith, inl, inr, length-append}
-use Rattle.std.specs.Prelude.{Err, IsErrOf, Result, is_some, if◌then◌else◌}
-use Rattle.std.specs.List.{list_all}
-use Rattle.std.specs.Option.{option_map}
-use Rattle.std.proofs.lemmas.Bool.Decides.{nat_tests}
-use Rattle.std.proofs.lemmas.List.{append-nil}
-use Rattle.px_base.specs.CallSign.{CallSign}
-use Rattle.disk_model.specs.declared.disk.Disk.{Ghosts}
-use Rattle.ftl0_packets.specs.Layout.{dl_error_resp, packet_text}
-use Rattle.file_store.specs.Calls.{Reads}
-use Rattle.file_store.specs.Info.{IsCompleteIn}
-use Rattle.file_store.specs.Like.{IsStoreLike}
-use Rattle.file_store.specs.State.{IsKnown, StoreState, store_in, store_on}
-use Rattle.file_store.specs.Store.{Entry, Holding, Store, complete, entry_of, octets_at, partial}
+use Rattle.std.specs.Prelude.{if◌then◌else◌}
 use Rattle.file_store.specs.declared.refusals.HeaderFault.{HeaderFault}
 use Rattle.file_store.specs.declared.refusals.HeaderFault.TheVariants as fault
-use Rattle.file_store.proofs.Offered.{like_complete, like_entry, like_none, like_octets_length, like_partial, like_whole, reads_same}
-use Rattle.ftl0_session.specs.Lists.Lists.{CallerList}
-use Rattle.ftl0_session.specs.Downloads.Needs.{AreStored, IsDueIn, IsStored, LiesIn}
-use Rattle.ftl0_session.specs.Downloads.Sending.{due_octets, is_due, is_read, joined, next_due, octets_due}
-use Rattle.ftl0_session.specs.Downloads.Table.{DownloadRow, DownloadState, Due, asked_file, asked_row, complete_octets, directory_row, download_cmd_row, file_of, file_row, files_row, has_file, kept, listed_files, listing, lists_after, octets_in, ready, refused_row, sending, stored, waiting}
-use Rattle.ftl0_session.specs.Downloads.Taking.{Made, MakesRow, made, made_by}
+use Rattle.ftl0_session.specs.Downloads.Sending.{next_due}
+use Rattle.ftl0_session.proofs.Names.{Err, IsErrOf, Result, is_some, list_all, option_map, nat_tests, append-nil, CallSign, Ghosts, dl_error_resp, packet_text, Reads, IsCompleteIn, IsStoreLike, IsKnown, StoreState, store_in, store_on, Entry, Holding, Store, complete, entry_of, octets_at, partial, like_complete, like_entry, like_none, like_octets_length, like_partial, like_whole, reads_same, CallerList, AreStored, IsDueIn, IsStored, LiesIn, due_octets, is_due, is_read, joined, octets_due, DownloadRow, DownloadState, Due, asked_file, asked_row, complete_octets, directory_row, download_cmd_row, file_of, file_row, files_row, has_file, kept, listed_files, listing, lists_after, octets_in, ready, refused_row, sending, stored, waiting, Made, MakesRow, made, made_by}
 use Rattle.ftl0_session.proofs.CauseLemmas.{says-one}
 use Rattle.ftl0_session.proofs.downloads.DueLemmas.{length-due, length-stored}
 use Rattle.ftl0_session.proofs.downloads.FileLemmas.{file_in}

@@ -1,15 +1,6 @@
 -- The lists of all callers, whose numbers are those of complete files.
 use Rattle.std.proofs.Common.{◌≡◌, ℕ, ◌==◌, ◌≤◌, List, [], ◌∷◌, ◌++◌, length, drop, Bool, true, false, not, cond, arith}
-use Rattle.std.proofs.lemmas.Bool.Decides.{nat_tests}
-use Rattle.std.proofs.lemmas.List.{length-take}
-use Rattle.std.proofs.lemmas.List.Elements.{All-append, All-cons, All-drop, All-filter, All-map, All-nil, All-weaker}
-use Rattle.px_base.specs.CallSign.{CallSign}
-use Rattle.ftl0_session.specs.Lists.Lists.{CallerList, after_taking, is_of, left_of, lists_of_others, selected, shortened}
-use Rattle.file_store.specs.Info.{IsCompleteIn}
-use Rattle.file_store.specs.EntriesKept.{KeepsComplete}
-use Rattle.file_store.specs.Store.{Store}
-use Rattle.ftl0_session.specs.Downloads.Needs.{AreComplete, AreFiles}
-use Rattle.ftl0_session.specs.Downloads.Table.{listed_files, lists_after}
+use Rattle.ftl0_session.proofs.Names.{nat_tests, length-take, All-append, All-cons, All-drop, All-filter, All-map, All-nil, All-weaker, CallSign, CallerList, after_taking, is_of, left_of, lists_of_others, selected, shortened, IsCompleteIn, KeepsComplete, Store, AreComplete, AreFiles, listed_files, lists_after}
 use Rattle.ftl0_session.proofs.downloads.DueLemmas.{complete-kept}
 
 -- the list's numbers are those of complete files

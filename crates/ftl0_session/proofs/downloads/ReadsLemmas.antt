@@ -1,10 +1,6 @@
 -- Reads of a disk, one after another.
 use Rattle.std.proofs.Common.{◌≡◌, ℕ, List, Option, Result, Ok, Err, OnErr, refl, ap, sym, ◌∙◌, subst}
-use Rattle.disk_model.specs.declared.disk.Disk.{Ghosts}
-use Rattle.file_store.specs.Reads.{OnlyReads}
-use Rattle.file_store.specs.Calls.{TellsAlike}
-use Rattle.file_store.specs.State.{IsKnown, IsReady, StoreState, store_on}
-use Rattle.file_store.proofs.Offered.{known_on, on_same, reads_none, reads_on, reads_same}
+use Rattle.ftl0_session.proofs.Names.{Ghosts, OnlyReads, TellsAlike, IsKnown, IsReady, StoreState, store_on, known_on, on_same, reads_none, reads_on, reads_same}
 
 module _ {D : Type 0} (g : Ghosts D) where
   -- none yet

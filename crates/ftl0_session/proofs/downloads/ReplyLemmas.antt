@@ -1,16 +1,8 @@
 -- What the rows of downloading reply.
 use Rattle.std.proofs.Common.{◌≡◌, ℕ, List, [], ◌∷◌, length, refl, Bool, true, false, not, Option, None, Some}
-use Rattle.std.specs.Prelude.{Ok, Err, IfSome, Result, if◌then◌else◌, nat_lt, ◌==◌}
-use Rattle.std.specs.List.{list_all}
-use Rattle.std.specs.Option.{option_map}
-use Rattle.px_base.specs.CallSign.{CallSign}
-use Rattle.ftl0_packets.specs.Layout.{PacketValue, dir_long_cmd, dir_short_cmd, dl_aborted_resp, dl_ack_cmd, dl_completed_resp, dl_error_resp, dl_nak_cmd, download_cmd, select_cmd, select_resp}
-use Rattle.selection.specs.Layout.{Tree}
+use Rattle.std.specs.Prelude.{if◌then◌else◌, ◌==◌}
 use Rattle.selection.specs.Reading.{tree_in}
-use Rattle.selection.specs.declared.fault.SelFault.{SelFault}
-use Rattle.ftl0_session.specs.Lists.Lists.{CallerList}
-use Rattle.file_store.specs.Store.{Store}
-use Rattle.ftl0_session.specs.Downloads.Table.{DownloadRow, DownloadState, Due, asked_file, asked_row, command_row, download_row, ended_row, file_of, file_row, files_row, has_file, listed_files, listing, long_due, ready, refused_row, reply_sending, reply_waiting, sending, short_due, tree_row, waiting}
+use Rattle.ftl0_session.proofs.Names.{Ok, Err, IfSome, Result, nat_lt, list_all, option_map, CallSign, PacketValue, dir_long_cmd, dir_short_cmd, dl_aborted_resp, dl_ack_cmd, dl_completed_resp, dl_error_resp, dl_nak_cmd, download_cmd, select_cmd, select_resp, Tree, SelFault, CallerList, Store, DownloadRow, DownloadState, Due, asked_file, asked_row, command_row, download_row, ended_row, file_of, file_row, files_row, has_file, listed_files, listing, long_due, ready, refused_row, reply_sending, reply_waiting, sending, short_due, tree_row, waiting}
 
 -- Where a read fails or none does: what holds of no reply, of each refusal but with code 3, of that one where a read
 -- fails, and of SELECT_RESP and the ends of a download, holds of each row's replies.

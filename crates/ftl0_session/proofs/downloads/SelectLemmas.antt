@@ -1,20 +1,10 @@
 -- The tree of a SELECT_CMD's tokens, or their fault.
 use Rattle.std.proofs.Common.{◌≡◌, ◌≤◌, ℕ, List, [], ◌∷◌, length, true, false, Result, Ok, Err, refl, ap, sym, ◌∙◌, arith}
-use Rattle.std.specs.Prelude.{IfNone, IfOk, IfSome, nat_lt, ◌↔◌}
+use Rattle.std.specs.Prelude.{◌↔◌}
 use Rattle.std.specs.Result.{result_ok}
-use Rattle.std.proofs.lemmas.Bool.Decides.{nat_tests}
-use Rattle.px_base.specs.CallSign.{CallSign}
 use Rattle.px_base.specs.Octets.{IsOctets}
-use Rattle.ftl0_packets.specs.Layout.{dl_error_resp, select_resp}
-use Rattle.file_store.specs.Store.{Store}
-use Rattle.ftl0_session.specs.Lists.Lists.{CallerList}
-use Rattle.selection.specs.declared.fault.SelFault.{SelFault}
 use Rattle.selection.specs.Faults.{FirstFault}
-use Rattle.selection.specs.Layout.{Postfix, Tree}
-use Rattle.selection.specs.Values.{tree_of}
-use Rattle.selection.proofs.ReadLemmas.{one_fault, one_tree}
-use Rattle.ftl0_session.specs.Downloads.Table.{DownloadRow, chosen, chosen_row, refused_row, select_row, tree_row}
-use Rattle.ftl0_session.specs.Downloads.Taking.{SelectsBy, SelectsNone}
+use Rattle.ftl0_session.proofs.Names.{IfNone, IfOk, IfSome, nat_lt, nat_tests, CallSign, dl_error_resp, select_resp, Store, CallerList, SelFault, Postfix, Tree, tree_of, one_fault, one_tree, DownloadRow, chosen, chosen_row, refused_row, select_row, tree_row, SelectsBy, SelectsNone}
 
 within : (tokens : List ℕ) → length tokens ≤ 2047 → nat_lt 2047 (length tokens) ≡ false
 within tokens few = grind (arith, nat_tests)

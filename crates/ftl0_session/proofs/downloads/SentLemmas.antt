@@ -1,22 +1,7 @@
 -- What is sent where no read fails: all that is due, and DATA_END.
 use Rattle.std.proofs.Common.{◌≡◌, ◌≢◌, ℕ, zero, suc, ◌-◌, ◌==◌, ◌≤◌, ◌<◌, List, [], ◌∷◌, ◌++◌, length, map, take, drop, Bool, true, false, None, Some, refl, ap, ◌∙◌, subst, arith, inl, inr, length-append, length-drop}
-use Rattle.std.specs.Prelude.{nat_lt}
-use Rattle.std.specs.List.{flat_map}
-use Rattle.std.proofs.Math.Seq.{take-append_seam}
-use Rattle.std.proofs.lemmas.Bool.{cases_lt}
-use Rattle.std.proofs.lemmas.Bool.Decides.{nat_tests}
-use Rattle.std.proofs.lemmas.List.{append-nil, take-append-drop}
-use Rattle.std.proofs.lemmas.List.Elements.{All-head, All-tail}
-use Rattle.px_base.specs.CallSign.{CallSign}
-use Rattle.ftl0_packets.specs.Layout.{data_end, data_part, download_cmd}
-use Rattle.ftl0_session.specs.Lists.Lists.{CallerList}
-use Rattle.file_store.specs.Headers.{IsHeaderOf, body_octets, header_octets}
-use Rattle.file_store.specs.Info.{IsCompleteIn}
-use Rattle.file_store.specs.Store.{Store}
-use Rattle.ftl0_session.specs.Downloads.Laws.{BeginWithHeaders, IsSent, Sends, SendsAll}
-use Rattle.ftl0_session.specs.Downloads.Needs.{AreStored, IsDueIn, LiesIn}
-use Rattle.ftl0_session.specs.Downloads.Sending.{due_octets, is_due, joined, most_data, next_due, octets_due, state_after, state_at_end}
-use Rattle.ftl0_session.specs.Downloads.Table.{DownloadRow, DownloadState, command_row, download_row, file_of, header_due, lists_after, listing, long_due, octets_in, ready, sending, short_due, short_octets, stored, waiting}
+use Rattle.ftl0_session.specs.Downloads.Sending.{next_due}
+use Rattle.ftl0_session.proofs.Names.{nat_lt, flat_map, take-append_seam, cases_lt, nat_tests, append-nil, take-append-drop, All-head, All-tail, CallSign, data_end, data_part, download_cmd, CallerList, IsHeaderOf, body_octets, header_octets, IsCompleteIn, Store, BeginWithHeaders, IsSent, Sends, SendsAll, AreStored, IsDueIn, LiesIn, due_octets, is_due, joined, most_data, octets_due, state_after, state_at_end, DownloadRow, DownloadState, command_row, download_row, file_of, header_due, lists_after, listing, long_due, octets_in, ready, sending, short_due, short_octets, stored, waiting}
 use Rattle.ftl0_session.proofs.downloads.DueLemmas.{due-after, octets_due-after, take-all}
 use Rattle.ftl0_session.proofs.downloads.FileLemmas.{file-complete}
 

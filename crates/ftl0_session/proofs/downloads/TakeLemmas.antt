@@ -1,20 +1,8 @@
 -- What is taken, by its row.
 use Rattle.std.proofs.Common.{◌≡◌, ℕ, List, Bool, true, false, Option, None, Some, refl, sym, ◌∙◌, ap, Bor}
-use Rattle.std.proofs.lemmas.List.{append-nil}
-use Rattle.px_base.specs.CallSign.{CallSign}
-use Rattle.disk_model.specs.declared.disk.Disk.{Ghosts}
-use Rattle.std.specs.Prelude.{IfNone, IfSome}
-use Rattle.std.specs.Option.{option_map}
-use Rattle.ftl0_packets.specs.Layout.{PacketValue, dir_long_cmd, dir_short_cmd, download_cmd, packet_text, select_cmd}
-use Rattle.ftl0_packets.specs.Values.{value_of}
 use Rattle.ftl0_packets.specs.declared.packet.Packet.{Packet}
 use Rattle.ftl0_packets.specs.declared.packet.Packet.TheVariants as packet
-use Rattle.ftl0_session.specs.Lists.Lists.{CallerList}
-use Rattle.file_store.proofs.Offered.{at_told, reads_none}
-use Rattle.file_store.specs.State.{IsKnown, StoreState, store_in, store_on}
-use Rattle.file_store.specs.Store.{Store}
-use Rattle.ftl0_session.specs.Downloads.Table.{DownloadRow, DownloadState, Due, command_row, directory_row, download_cmd_row, download_row, ended_row, listing, long_due, ready, reply_sending, reply_waiting, select_row, sending, short_due, waiting}
-use Rattle.ftl0_session.specs.Downloads.Taking.{Made, MakesRow, TakesByRow, made, made_by}
+use Rattle.ftl0_session.proofs.Names.{append-nil, CallSign, Ghosts, IfNone, IfSome, option_map, PacketValue, dir_long_cmd, dir_short_cmd, download_cmd, packet_text, select_cmd, value_of, CallerList, at_told, reads_none, IsKnown, StoreState, store_in, store_on, Store, DownloadRow, DownloadState, Due, command_row, directory_row, download_cmd_row, download_row, ended_row, listing, long_due, ready, reply_sending, reply_waiting, select_row, sending, short_due, waiting, Made, MakesRow, TakesByRow, made, made_by}
 use Rattle.ftl0_session.proofs.CauseLemmas.{says-quiet}
 use Rattle.ftl0_session.proofs.FaultLemmas.{Keeps}
 

@@ -1,13 +1,8 @@
 -- Whose list a list is, and where a caller's stands.
 use Rattle.std.proofs.Common.{◌≡◌, ◌≢◌, ℕ, ◌-◌, ◌<◌, ◌≤◌, true, false, List, [], length, drop, find, position, remove, None, Some, get_or, sym, ◌∙◌, ap, ap₂, arith}
-use Rattle.std.specs.Prelude.{bytes_eq, ◌==◌}
+use Rattle.std.specs.Prelude.{◌==◌}
 use Rattle.std.specs.Bool.{Decides}
-use Rattle.std.proofs.lemmas.Bool.{false_from_ne_true}
-use Rattle.std.proofs.lemmas.Bool.Decides.{Decides-and, Decides-eqb, Decides-like}
-use Rattle.std.proofs.lemmas.List.Quantifiers.{position-Some}
-use Rattle.std.proofs.lemmas.Slice.Eq.{bytes_eq-Decides}
-use Rattle.px_base.specs.CallSign.{CallSign}
-use Rattle.ftl0_session.specs.Lists.Lists.{CallerList, IsLists, is_of, is_same_call, last_of, left_of, lists_of_others, numbers_or_none}
+use Rattle.ftl0_session.proofs.Names.{bytes_eq, false_from_ne_true, Decides-and, Decides-eqb, Decides-like, position-Some, bytes_eq-Decides, CallSign, CallerList, IsLists, is_of, is_same_call, last_of, left_of, lists_of_others, numbers_or_none}
 use Rattle.ftl0_session.proofs.lists.OnePasses.{PassesAt, find-nowhere, find-one, none-from_find, passes-at, rest-none, rest-one}
 
 -- whether two calls are the same

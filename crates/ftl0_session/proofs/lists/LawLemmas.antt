@@ -1,16 +1,7 @@
 -- Laws of the lists, over their definitions.
 use Rattle.std.proofs.Common.{◌≡◌, ◌≢◌, ℕ, suc, ◌+◌, ◌-◌, ◌<◌, ◌≤◌, true, false, cond, get_or, Bool, List, [], ◌∷◌, ◌++◌, length, drop, find, not, Option, None, Some, option_map, refl, sym, ◌∙◌, ap, inl, inr, arith, append_assoc}
-use Rattle.std.specs.List.{AllByRecursion}
-use Rattle.std.specs.Option.{option_or}
-use Rattle.std.proofs.lemmas.Bool.{cases_eq, not_from_false}
-use Rattle.std.proofs.lemmas.List.{drop-append-le, length-append}
-use Rattle.std.proofs.lemmas.Option.{same_Some}
-use Rattle.std.proofs.Math.Seq.{drop-nil}
-use Rattle.std.proofs.lemmas.List.Elements.{All-drop, All-filter, All-from_recursion, filter-append, recursion_from_All}
-use Rattle.std.proofs.lemmas.List.Folds.{find-append}
-use Rattle.px_base.specs.CallSign.{CallSign}
 use Rattle.ftl0_session.specs.Lists.Laws.{HasToGo, KeptLaw, OthersLaw, SelectionLaw, TakingLaw, after_selections, callers}
-use Rattle.ftl0_session.specs.Lists.Lists.{CallerList, IsLists, after_taking, is_of, last_of, left_of, list_of, lists_of_others, numbers_or_none, selected, shortened}
+use Rattle.ftl0_session.proofs.Names.{AllByRecursion, option_or, cases_eq, not_from_false, drop-append-le, length-append, same_Some, drop-nil, All-drop, All-filter, All-from_recursion, filter-append, recursion_from_All, find-append, CallSign, CallerList, IsLists, after_taking, is_of, last_of, left_of, list_of, lists_of_others, numbers_or_none, selected, shortened}
 use Rattle.ftl0_session.proofs.lists.CallerLists.{last_of-all, not-both, not-of, others-none, same-call}
 use Rattle.ftl0_session.proofs.lists.OnePasses.{fewer-left, find-in_rest, find-mapped, find-none, found-passes, none-in_rest}
 use Rattle.ftl0_session.proofs.lists.Selecting.{IsLists-selected, few-others, own}

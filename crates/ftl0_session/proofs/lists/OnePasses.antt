@@ -1,11 +1,6 @@
 -- Lists of which at most one element passes a test.
 use Rattle.std.proofs.Common.{◌≡◌, ℕ, zero, suc, ◌<◌, Bool, true, false, cond, not, List, [], ◌∷◌, map, length, set, filter, find, position, remove, AllPairs, Option, None, Some, option_map, get_or, refl, sym, ◌∙◌, ap, subst, inl, inr, ltb, arith}
-use Rattle.std.specs.List.{AllByRecursion, position_or_len}
-use Rattle.std.proofs.lemmas.Bool.{cases_Bool, false_from_ne_true, ltb-false, true≢false}
-use Rattle.std.proofs.lemmas.List.Elements.{recursion_from_All}
-use Rattle.std.proofs.lemmas.List.Filters.{length-filter_both}
-use Rattle.std.proofs.lemmas.List.Folds.{find_at}
-use Rattle.std.proofs.lemmas.Option.{same_Some, slice_get_past}
+use Rattle.ftl0_session.proofs.Names.{AllByRecursion, position_or_len, cases_Bool, false_from_ne_true, ltb-false, true≢false, recursion_from_All, length-filter_both, find_at, same_Some, slice_get_past}
 
 module _ {X : Type 0} (p : X → Bool) where
   -- no element passes

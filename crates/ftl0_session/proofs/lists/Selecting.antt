@@ -1,14 +1,8 @@
 -- What a caller's selecting makes of the lists.
 use Rattle.std.proofs.Common.{◌≡◌, ◌≢◌, ℕ, ◌+◌, ◌-◌, ◌<◌, ◌≤◌, false, not, List, [], ◌∷◌, ◌++◌, length, drop, position, remove, AllPairs, None, Some, get_or, refl, sym, ◌∙◌, ap, subst, arith}
-use Rattle.std.proofs.lemmas.List.{drop-append-le, get_or-drop, length-append, length-drop}
 use Rattle.std.proofs.lemmas.List.Edits.{length-remove}
-use Rattle.std.proofs.lemmas.List.Elements.{All-drop, All-filter, All-from_recursion, All-push}
-use Rattle.std.proofs.lemmas.List.Filters.{length-filter_both}
 use Rattle.std.proofs.lemmas.List.Kept.{AllPairs-filter}
-use Rattle.std.proofs.lemmas.List.Quantifiers.{all_pairs_push}
-use Rattle.std.proofs.lemmas.Bool.{true≢false}
-use Rattle.px_base.specs.CallSign.{CallSign}
-use Rattle.ftl0_session.specs.Lists.Lists.{CallerList, IsLists, is_of, last_of, lists_of_others, selected}
+use Rattle.ftl0_session.proofs.Names.{drop-append-le, get_or-drop, length-append, length-drop, All-drop, All-filter, All-from_recursion, All-push, length-filter_both, all_pairs_push, true≢false, CallSign, CallerList, IsLists, is_of, last_of, lists_of_others, selected}
 use Rattle.ftl0_session.proofs.lists.CallerLists.{last_of-all, others-at, others-none, same-call, within}
 use Rattle.ftl0_session.proofs.lists.OnePasses.{find-nowhere, none-in_rest}
 

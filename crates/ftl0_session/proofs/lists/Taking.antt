@@ -1,10 +1,6 @@
 -- What taking numbers makes of the lists.
 use Rattle.std.proofs.Common.{◌≡◌, ℕ, ◌<◌, ◌≤◌, Bool, cond, List, length, drop, set, position, None, Some, get_or, sym, ◌∙◌, ap, subst, inl, inr, arith}
-use Rattle.std.proofs.lemmas.Bool.{cases_Bool}
-use Rattle.std.proofs.lemmas.List.{get_or-map, length-drop, length-map}
-use Rattle.std.proofs.lemmas.List.Elements.{All-map}
-use Rattle.px_base.specs.CallSign.{CallSign}
-use Rattle.ftl0_session.specs.Lists.Lists.{CallerList, IsLists, after_taking, is_of, shortened}
+use Rattle.ftl0_session.proofs.Names.{cases_Bool, get_or-map, length-drop, length-map, All-map, CallSign, CallerList, IsLists, after_taking, is_of, shortened}
 use Rattle.ftl0_session.proofs.lists.CallerLists.{here}
 use Rattle.ftl0_session.proofs.lists.OnePasses.{find-nowhere, map-none, map-one, none-from_find}
 

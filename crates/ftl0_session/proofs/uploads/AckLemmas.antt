@@ -1,11 +1,8 @@
 -- What was acknowledged stands.
 use Rattle.std.proofs.Common.{◌≡◌, ℕ, ◌+◌, ◌-◌, ◌≤◌, List, [], ◌∷◌, ◌++◌, length, refl, ◌∙◌, ap, subst, arith, length-append, None, Some}
-use Rattle.file_store.specs.Command.{AreAllowed, Command, after_all, last_grow, seal}
-use Rattle.file_store.specs.Store.{Store, entry_of}
-use Rattle.file_store.specs.OnDisk.{after_first}
-use Rattle.file_store.proofs.Offered.{AreAllowed-split, after_first-then, stays}
 use Rattle.ftl0_session.specs.Uploads.Laws.{AcknowledgedStandsLaw, kept}
-use Rattle.ftl0_session.specs.Uploads.Session.{Row, whole_row}
+use Rattle.ftl0_session.specs.Uploads.Session.{Row}
+use Rattle.ftl0_session.proofs.Names.{AreAllowed, Command, after_all, last_grow, seal, Store, entry_of, after_first, AreAllowed-split, after_first-then, stays, whole_row}
 use Rattle.ftl0_session.proofs.uploads.Uploads.{end-row, sealed_entry, upto-is}
 
 -- at least so many commands are all of the first ones and some of the others

@@ -1,35 +1,11 @@
 -- A new file: what it leaves of other files, and the answer to a refusal.
 use Rattle.std.proofs.Common.{◌≡◌, ◌⊎◌, ℕ, List, [], ◌∷◌, refl, ap, sym, ◌∙◌, subst, inl, inr, None, Some, true, true≢false}
-use Rattle.std.specs.Prelude.{⊤, IsTrue, Result, Ok, Err, IsErr}
-use Rattle.px_base.specs.CallSign.{CallSign}
-use Rattle.disk_model.specs.declared.disk.Disk.{Ghosts}
-use Rattle.ftl0_packets.specs.Items.{texts}
-use Rattle.ftl0_packets.specs.Layout.{Item, ul_error_resp, upload_cmd}
-use Rattle.file_store.specs.Answers.{RefusesBegin, begin_reaches}
-use Rattle.file_store.specs.BeginBar.{BeginBar}
 use Rattle.file_store.specs.BeginBar.TheVariants as bar
-use Rattle.file_store.specs.Bars.{Bars}
-use Rattle.file_store.specs.Command.{Command, MayBegin, after, begin, can_begin}
-use Rattle.file_store.specs.EntriesKept.{KeepsComplete}
-use Rattle.file_store.specs.Files.{KeepsRests}
-use Rattle.file_store.specs.IsStore.{IsStore}
-use Rattle.file_store.specs.Kept.{KeepsUploads}
-use Rattle.file_store.specs.OnDisk.{Does}
-use Rattle.file_store.specs.Like.{IsStoreLike}
-use Rattle.file_store.specs.State.{StandsOn, StoreState, store_in}
-use Rattle.file_store.specs.Store.{Entry, Store, entry_of, new_entry}
-use Rattle.file_store.specs.Upload.{Upload}
 use Rattle.file_store.specs.declared.refusals.BeginRefusal.{BeginRefusal}
 use Rattle.file_store.specs.declared.refusals.BeginRefusal.TheVariants as refusal
-use Rattle.file_store.proofs.Offered.{like_bars, like_can_begin}
 use Rattle.ftl0_session.specs.declared.uploads.phase.Phase.TheVariants as phase
-use Rattle.disk_model.specs.AtDisk.{at}
-use Rattle.disk_model.specs.declared.disk.DiskFault.{DiskFault}
-use Rattle.ftl0_session.specs.Uploads.Events.{packet_of}
-use Rattle.ftl0_session.specs.Uploads.Others.{KeepsOtherCallers}
-use Rattle.ftl0_session.specs.Uploads.Session.{command, granted_row, session_row}
-use Rattle.ftl0_session.specs.Uploads.SessionState.{MayTake, NoOtherOut}
-use Rattle.ftl0_session.specs.Uploads.Taking.{Answered, AnswersRefusal}
+use Rattle.ftl0_session.specs.Uploads.SessionState.{MayTake}
+use Rattle.ftl0_session.proofs.Names.{⊤, IsTrue, Result, Ok, Err, IsErr, CallSign, Ghosts, texts, Item, ul_error_resp, upload_cmd, RefusesBegin, begin_reaches, BeginBar, Bars, Command, MayBegin, after, begin, can_begin, KeepsComplete, KeepsRests, IsStore, KeepsUploads, Does, IsStoreLike, StandsOn, StoreState, store_in, Entry, Store, entry_of, new_entry, Upload, like_bars, like_can_begin, at, DiskFault, packet_of, KeepsOtherCallers, command, granted_row, session_row, NoOtherOut, Answered, AnswersRefusal}
 use Rattle.ftl0_session.proofs.uploads.DoesLemmas.{answered-alone, takes-cut}
 use Rattle.ftl0_session.proofs.uploads.OtherLemmas.{never_some}
 use Rattle.ftl0_session.proofs.uploads.Rows.{upload-refused}

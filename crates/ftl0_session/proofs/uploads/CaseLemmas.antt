@@ -1,19 +1,10 @@
 -- What holds of each row of the table of uploading holds of the row of a packet.
 use Rattle.std.proofs.Common.{◌≡◌, ℕ, List, [], ◌∷◌, ◌++◌, length, refl, sym, ◌∙◌, subst, true≢false, Bool, true, false, not, Option, None, Some}
-use Rattle.std.proofs.lemmas.Bool.{cond_both, not-false}
-use Rattle.std.proofs.lemmas.Option.{none-some, same_Some}
-use Rattle.std.specs.Prelude.{Ok, IfSome, if◌then◌else◌, ◌==◌}
-use Rattle.std.specs.Option.{option_map, option_or}
-use Rattle.px_base.specs.CallSign.{CallSign}
-use Rattle.pfh_items.specs.Faults.{code_of, fault_code, first_fault}
+use Rattle.std.specs.Prelude.{if◌then◌else◌, ◌==◌}
 use Rattle.pfh_items.specs.declared.fault.FileFault.{FileFault}
 use Rattle.pfh_items.specs.declared.fault.FileFault.TheVariants.{NoHeader, NoEndItem, MissingItem, BadHeader, HeaderSum, BodySum}
-use Rattle.ftl0_packets.specs.Items.{kind_of_item}
-use Rattle.ftl0_packets.specs.Layout.{Item, data_end, data_part, ul_nak_resp, upload_cmd}
-use Rattle.file_store.specs.Command.{can_begin, has_room, passes}
-use Rattle.file_store.specs.Info.{is_complete}
-use Rattle.file_store.specs.Store.{Entry, Store, entry_of, octets_at, octets_of}
-use Rattle.ftl0_session.specs.Uploads.Session.{Row, State, aborting, begin_row, command, continue_row, error_row, granted_row, is_all, is_theirs, is_upload_kind, receiving, refused_row, resumed_row, row_by_read, row_unread, session_row, silent_row, taken_row, unread_row, whole_row}
+use Rattle.ftl0_session.specs.Uploads.Session.{Row, State, error_row, refused_row}
+use Rattle.ftl0_session.proofs.Names.{cond_both, not-false, none-some, same_Some, Ok, IfSome, option_map, option_or, CallSign, code_of, fault_code, first_fault, kind_of_item, Item, data_end, data_part, ul_nak_resp, upload_cmd, can_begin, has_room, passes, is_complete, Entry, Store, entry_of, octets_at, octets_of, aborting, begin_row, command, continue_row, granted_row, is_all, is_theirs, is_upload_kind, receiving, resumed_row, row_by_read, row_unread, session_row, silent_row, taken_row, unread_row, whole_row}
 
 -- the code of a fault of a file isn't 3
 pub fault-other : (o : Option FileFault) (code : ℕ) → option_map code_of o ≡ Some code → (code == 3) ≡ false

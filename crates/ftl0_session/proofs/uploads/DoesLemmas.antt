@@ -1,29 +1,10 @@
 -- What a packet does to the store's disk.
 use Rattle.std.proofs.Common.{◌≡◌, ℕ, List, [], ◌∷◌, ◌++◌, refl, ap, sym, ◌∙◌, subst, inl, arith, Bool, true, false, true≢false, Option, Some}
-use Rattle.std.specs.Prelude.{⊤, Result, Ok, Err}
-use Rattle.std.specs.List.{AllByRecursion}
-use Rattle.disk_model.specs.declared.disk.Disk.{Ghosts}
-use Rattle.ftl0_packets.specs.Items.{texts}
-use Rattle.ftl0_packets.specs.Layout.{ul_nak_resp}
-use Rattle.file_store.proofs.Offered.{at_told, Does-moved, Does-none, Does-same, does-among, in_parked, like_same, on_like, puts-among, puts-among-same, stands_parked}
-use Rattle.file_store.specs.Command.{Command, DoesAll, after_all}
-use Rattle.file_store.specs.EntriesKept.{KeepsComplete}
-use Rattle.file_store.specs.Like.{IsStoreLike}
-use Rattle.file_store.specs.Store.{Store}
-use Rattle.file_store.specs.OnDisk.{Does, outlined_all}
-use Rattle.file_store.specs.State.{IsKnown, IsReady, StoreState, store_in, store_on}
-use Rattle.file_store.specs.Working.{CountsSome, DoesAmongReads, PutsAmongReads, one_if}
-use Rattle.ftl0_session.specs.declared.uploads.phase.Phase.{Phase}
-use Rattle.disk_model.specs.declared.disk.DiskFault.{DiskFault}
-use Rattle.ftl0_session.specs.Uploads.Session.{Row, State, command, fault_reply}
-use Rattle.ftl0_session.specs.Uploads.SessionState.{state_of}
-use Rattle.ftl0_session.specs.Causes.{Says}
-use Rattle.ftl0_session.specs.Uploads.Laws.{IsNoFault}
-use Rattle.ftl0_session.specs.Uploads.Taking.{Answered, AnsweredAlone, LooksAtNone, MakesAnyway, TakesPacket, Working, row_of, working_at}
+use Rattle.ftl0_session.specs.Uploads.Session.{Row, State}
+use Rattle.ftl0_session.specs.Uploads.Taking.{Working}
+use Rattle.ftl0_session.proofs.Names.{⊤, Result, Ok, Err, AllByRecursion, Ghosts, texts, ul_nak_resp, at_told, Does-moved, Does-none, Does-same, does-among, in_parked, like_same, on_like, puts-among, puts-among-same, stands_parked, Command, DoesAll, after_all, KeepsComplete, IsStoreLike, Store, Does, outlined_all, IsKnown, IsReady, StoreState, store_in, store_on, CountsSome, DoesAmongReads, PutsAmongReads, one_if, Phase, DiskFault, command, fault_reply, state_of, Says, IsNoFault, Answered, AnsweredAlone, LooksAtNone, MakesAnyway, TakesPacket, row_of, working_at, CallerPacket, at}
 use Rattle.ftl0_session.proofs.CauseLemmas.{says-quiet}
 use Rattle.ftl0_session.proofs.FaultLemmas.{Silent, upload_codes, uploads-silent}
-use Rattle.ftl0_session.specs.Uploads.Events.{CallerPacket}
-use Rattle.disk_model.specs.AtDisk.{at}
 
 -- a count that stands as it stood
 counts-none : (before now : ℕ) → now ≡ before → CountsSome before now 0

@@ -1,25 +1,8 @@
 -- What a session that receives a file gives, over a store that holds its upload, whatever octets its files have.
 use Rattle.std.proofs.Common.{◌≡◌, ℕ, ◌+◌, ◌≤◌, ◌<◌, List, [], ◌∷◌, ◌++◌, length, refl, ap, sym, ◌∙◌, subst, arith, inl, inr, Option, None, Some, true, false}
-use Rattle.std.proofs.lemmas.Bool.Decides.{leb_tells}
-use Rattle.std.specs.Prelude.{Ok}
-use Rattle.px_base.specs.CallSign.{CallSign}
-use Rattle.pfh_items.specs.Faults.{fault_code}
-use Rattle.ftl0_packets.specs.Items.{texts}
-use Rattle.ftl0_packets.specs.Layout.{Item, data_end, data_part, ul_nak_resp}
-use Rattle.file_store.specs.Answers.{IsShort, IsTooMuch}
-use Rattle.file_store.specs.Command.{last_grow}
-use Rattle.file_store.specs.Files.{ChangesRest}
-use Rattle.file_store.specs.Kept.{KeepsOthers}
-use Rattle.file_store.specs.Like.{IsStoreLike}
-use Rattle.file_store.specs.State.{StoreState, store_in}
-use Rattle.file_store.specs.Store.{Entry, Store, entry_of, partial}
-use Rattle.file_store.specs.Upload.{Holds, Upload, came, ending, entry_for, octets_come, sealing, waiting, with_bytes}
-use Rattle.file_store.proofs.Offered.{in_parked, like_entry, like_partial, like_same}
-use Rattle.ftl0_session.specs.declared.uploads.phase.Phase.{Phase}
-use Rattle.ftl0_session.specs.Uploads.Session.{Row, aborting, command, row_by_read, session_row, taken_row, unread_row, whole_row}
-use Rattle.ftl0_session.specs.Uploads.SessionState.{NoOtherOut, PhaseIsHeld, number_of, receiving_of, state_of}
-use Rattle.ftl0_session.specs.Uploads.Taking.{AnsweredAlone, LooksAtNone}
-use Rattle.ftl0_session.specs.Uploads.Events.{packet_of}
+use Rattle.file_store.specs.Upload.{waiting}
+use Rattle.ftl0_session.specs.Uploads.Session.{Row}
+use Rattle.ftl0_session.proofs.Names.{leb_tells, Ok, CallSign, fault_code, texts, Item, data_end, data_part, ul_nak_resp, IsShort, IsTooMuch, last_grow, ChangesRest, KeepsOthers, IsStoreLike, StoreState, store_in, Entry, Store, entry_of, partial, Holds, Upload, came, ending, entry_for, octets_come, sealing, with_bytes, in_parked, like_entry, like_partial, like_same, Phase, aborting, command, row_by_read, session_row, taken_row, unread_row, whole_row, NoOtherOut, PhaseIsHeld, number_of, receiving_of, state_of, AnsweredAlone, LooksAtNone, packet_of}
 use Rattle.ftl0_session.proofs.uploads.DoesLemmas.{more-at_end, one-row, some-at_end}
 use Rattle.ftl0_session.proofs.uploads.OtherLemmas.{changes-same, only-none, others-kept}
 use Rattle.ftl0_session.proofs.uploads.UploadRows.{row-short, row-taken, row-too_much, row-unread, row-whole}

@@ -1,14 +1,6 @@
 -- What a call on one upload leaves of the other entries.
 use Rattle.std.proofs.Common.{◌≡◌, ℕ, refl, ap, sym, ◌∙◌, subst, None, Some, inl, inr}
-use Rattle.std.proofs.lemmas.Bool.Decides.{eqb_tells}
-use Rattle.px_base.specs.CallSign.{CallSign}
-use Rattle.file_store.specs.Files.{KeepsRests}
-use Rattle.file_store.specs.Store.{Entry, Store, entry_of, partial}
-use Rattle.file_store.specs.Kept.{ChangesEntry, KeepsOthers}
-use Rattle.file_store.specs.State.{StoreState, rest_in, store_in}
-use Rattle.file_store.specs.Upload.{entry_for}
-use Rattle.ftl0_session.specs.Uploads.Others.{KeepsOtherCallers}
-use Rattle.ftl0_session.specs.Uploads.SessionState.{NoOtherOut}
+use Rattle.ftl0_session.proofs.Names.{eqb_tells, CallSign, KeepsRests, Entry, Store, entry_of, partial, ChangesEntry, KeepsOthers, StoreState, rest_in, store_in, entry_for, KeepsOtherCallers, NoOtherOut}
 
 pub never_some : {X : Type 0} (x : X) → None ≡ Some x → ⊥
 never_some x same = cc

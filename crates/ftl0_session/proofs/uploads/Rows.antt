@@ -1,25 +1,12 @@
 -- Which packets have a row, the rows of those that have no row of their own, and of those in Aborting.
 use Rattle.std.proofs.Common.{◌≡◌, ℕ, List, [], ◌∷◌, refl, Bool, true, false, true≢false, sym, ap, ◌∙◌, Bor, subst, Option, None, Some}
-use Rattle.std.specs.Prelude.{⊤, Result, Ok, Err, IsErr, if◌then◌else◌, is_some}
-use Rattle.std.specs.Option.{option_or}
-use Rattle.px_base.specs.CallSign.{CallSign}
-use Rattle.ftl0_packets.specs.Layout.{Item, data_part, data_end, upload_cmd, ul_error_resp}
-use Rattle.file_store.specs.Like.{IsStoreLike}
-use Rattle.file_store.specs.Store.{Store}
-use Rattle.file_store.specs.State.{StoreState, store_in}
+use Rattle.std.specs.Prelude.{if◌then◌else◌}
 use Rattle.ftl0_session.specs.Uploads.Asked.{IsAsked}
 use Rattle.ftl0_session.specs.declared.uploads.asked.Asked.{Asked}
 use Rattle.ftl0_session.specs.declared.uploads.asked.Asked.TheVariants as asked
-use Rattle.ftl0_session.specs.declared.uploads.phase.Phase.{Phase}
 use Rattle.ftl0_session.specs.declared.uploads.phase.Phase.TheVariants as phase
-use Rattle.disk_model.specs.declared.disk.DiskFault.{DiskFault}
-use Rattle.ftl0_session.specs.Uploads.Laws.{RowsLaw}
-use Rattle.ftl0_session.specs.Uploads.Others.{KeepsOtherCallers}
-use Rattle.ftl0_packets.specs.Items.{kind_of_item, texts}
-use Rattle.ftl0_session.specs.Uploads.Session.{Row, State, aborting, command, error_row, is_upload_kind, receiving, refused_row, row_by_read, row_unread, session_row, silent_row}
-use Rattle.ftl0_session.specs.Uploads.SessionState.{NoOtherOut, PhaseIsHeld, number_of, state_of}
-use Rattle.ftl0_session.specs.Uploads.Taking.{AnsweredAlone}
-use Rattle.ftl0_session.specs.Uploads.Events.{packet_of}
+use Rattle.ftl0_session.specs.Uploads.Session.{Row, State, error_row, refused_row}
+use Rattle.ftl0_session.proofs.Names.{⊤, Result, Ok, Err, IsErr, is_some, option_or, CallSign, Item, data_part, data_end, upload_cmd, ul_error_resp, IsStoreLike, Store, StoreState, store_in, Phase, DiskFault, RowsLaw, KeepsOtherCallers, kind_of_item, texts, aborting, command, is_upload_kind, receiving, row_by_read, row_unread, session_row, silent_row, NoOtherOut, PhaseIsHeld, number_of, state_of, AnsweredAlone, packet_of}
 
 -- ---- which packets have a row
 

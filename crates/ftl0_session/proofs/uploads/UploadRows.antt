@@ -1,24 +1,9 @@
 -- The rows of UPLOAD_CMD, DATA and DATA_END, as the code meets them.
 use Rattle.std.proofs.Common.{◌≡◌, ◌≢◌, ◌⊎◌, ℕ, ◌+◌, ◌-◌, ◌≤◌, ◌<◌, Bool, ◌&&◌, List, [], ◌∷◌, ◌++◌, length, refl, true, false, arith, length-append, sym, ap, ap₂, ◌∙◌, eq-eqb, inl, inr, Option, None, Some, true≢false, ◌==◌}
-use Rattle.std.proofs.lemmas.Bool.Decides.{Decides-eqb, nat_tests, eqb_tells}
-use Rattle.std.proofs.lemmas.Slice.Eq.{bytes_eq-Decides}
-use Rattle.std.specs.Prelude.{find, Ok, nat_le, nat_lt, nat_eq, bytes_eq}
-use Rattle.px_base.specs.CallSign.{CallSign}
-use Rattle.pfh_items.specs.Faults.{fault_code}
-use Rattle.ftl0_packets.specs.Layout.{data_end, data_part, ul_nak_resp, upload_cmd}
-use Rattle.file_store.specs.Bars.{Bars}
-use Rattle.file_store.specs.BeginBar.{BeginBar}
 use Rattle.file_store.specs.BeginBar.TheVariants as bar
 use Rattle.file_store.specs.Limits.{last_next, longest_file, most_entries}
-use Rattle.file_store.specs.Command.{MayBegin, can_begin, has_room, passes}
-use Rattle.file_store.specs.Info.{is_complete}
-use Rattle.file_store.specs.IsStore.{IsStore}
-use Rattle.file_store.specs.Store.{Entry, Store, blocks_for, blocks_of, entry_of, octets_at, octets_of, partial}
-use Rattle.file_store.proofs.Offered.{found-fits, has_number}
-use Rattle.file_store.specs.State.{StoreState, rest_in}
-use Rattle.file_store.specs.Upload.{Upload}
-use Rattle.ftl0_session.specs.Uploads.Session.{aborting, command, continue_row, granted_row, is_all, is_same_call, is_theirs, receiving, refused_row, resumed_row, row_by_read, session_row, taken_row, unread_row, whole_row}
-use Rattle.ftl0_session.specs.Uploads.SessionState.{receiving_of}
+use Rattle.ftl0_session.specs.Uploads.Session.{is_same_call, refused_row}
+use Rattle.ftl0_session.proofs.Names.{Decides-eqb, nat_tests, eqb_tells, bytes_eq-Decides, find, Ok, nat_le, nat_lt, nat_eq, bytes_eq, CallSign, fault_code, data_end, data_part, ul_nak_resp, upload_cmd, Bars, BeginBar, MayBegin, can_begin, has_room, passes, is_complete, IsStore, Entry, Store, blocks_for, blocks_of, entry_of, octets_at, octets_of, partial, found-fits, has_number, StoreState, rest_in, Upload, aborting, command, continue_row, granted_row, is_all, is_theirs, receiving, resumed_row, row_by_read, session_row, taken_row, unread_row, whole_row, receiving_of}
 
 -- ---- a new file
 

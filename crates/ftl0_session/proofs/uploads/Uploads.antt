@@ -1,21 +1,11 @@
 -- The upload of a whole file, packet by packet.
 use Rattle.std.proofs.Common.{◌≡◌, ℕ, ◌+◌, ◌*◌, ◌/◌, ◌≤◌, List, [], ◌∷◌, ◌++◌, length, take, refl, ap, sym, ◌∙◌, arith, length-append, append_assoc, append-nil, None, Some, Option, eq-eqb}
-use Rattle.std.specs.Prelude.{Ok}
-use Rattle.std.proofs.lemmas.List.{take-append-drop}
-use Rattle.px_base.specs.CallSign.{CallSign}
-use Rattle.ftl0_packets.specs.Layout.{Item, PacketValue, data_end, ul_ack_resp, ul_go_resp}
-use Rattle.pfh_items.specs.Faults.{fault_code}
 use Rattle.pfh_writer.proofs.ClientLemmas.{kept_file}
-use Rattle.file_store.specs.Command.{after, after_all, begin, grown, last_grow, seal, sealed, stamp_of, unfilled_block, whole_grows}
-use Rattle.file_store.specs.IsStore.{IsStore}
-use Rattle.file_store.specs.Store.{Entry, Holding, Store, entry_of, new_entry, octets_at, partial}
-use Rattle.file_store.proofs.Offered.{after_all-append, find-map-changed, find-push, find_past, grows-after, has_number, last_grow-after}
 use Rattle.ftl0_session.specs.Uploads.Continued.{ContinuedLaw}
-use Rattle.ftl0_session.specs.Uploads.Events.{Event}
 use Rattle.ftl0_session.specs.Uploads.Laws.{AcknowledgedLaw, ResumedLaw, UnreadLaw, kept}
-use Rattle.ftl0_session.specs.Uploads.Run.{CommandsOfLaw, commands_of, on_row, replies_to, store_after}
-use Rattle.ftl0_session.specs.Uploads.Session.{Row, receiving, session_row, taken_row, whole_row}
+use Rattle.ftl0_session.specs.Uploads.Session.{Row}
 use Rattle.ftl0_session.specs.Uploads.Uploaded.{BringsFile, UploadedLaw}
+use Rattle.ftl0_session.proofs.Names.{Ok, take-append-drop, CallSign, Item, PacketValue, data_end, ul_ack_resp, ul_go_resp, fault_code, after, after_all, begin, grown, last_grow, seal, sealed, stamp_of, unfilled_block, whole_grows, IsStore, Entry, Holding, Store, entry_of, new_entry, octets_at, partial, after_all-append, find-map-changed, find-push, find_past, grows-after, has_number, last_grow-after, Event, CommandsOfLaw, commands_of, on_row, replies_to, store_after, receiving, session_row, taken_row, whole_row}
 use Rattle.ftl0_session.proofs.uploads.UploadRows.{row-granted, row-resumed, row-taken, row-unread, row-whole}
 
 -- the entry with these octets held

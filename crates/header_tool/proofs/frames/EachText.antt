@@ -1,16 +1,9 @@
 -- All recorded octets have a text.
 use Rattle.std.proofs.Common.{List, [], ◌∷◌, ◌++◌, ℕ, refl, inl, inr}
-use Rattle.std.specs.Prelude.{codes}
 use Rattle.std.specs.List.{AllByRecursion}
-use Rattle.std.proofs.lemmas.List.Elements.{recursion_from_All}
-use Rattle.kiss.specs.declared.whole.Part.{Part}
-use Rattle.kiss.specs.declared.whole.Part.TheVariants.{Frame, Dropped, Passed}
-use Rattle.kiss.specs.KissText.{kiss_parts}
 use Rattle.kiss.specs.Laws.{FramesHaveOctets, HasOctets}
-use Rattle.ax25_frames.specs.Laws.{IsFrameOrFault}
-use Rattle.header_tool.specs.Frames.FrameLine.{fault_line, frame_line}
-use Rattle.header_tool.specs.Frames.FramesText.{LineOf, LinesOf, line_feed}
 use Rattle.header_tool.specs.Frames.Laws.{HasText}
+use Rattle.header_tool.proofs.Names.{codes, recursion_from_All, Part, Frame, Dropped, Passed, kiss_parts, IsFrameOrFault, fault_line, frame_line, LineOf, LinesOf, line_feed}
 
 module _ (frame_or_fault : IsFrameOrFault) (frames_have_octets : FramesHaveOctets) where
   -- each part has a line

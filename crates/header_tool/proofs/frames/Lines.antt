@@ -1,10 +1,6 @@
 -- The texts of parts: put together, taken apart, and one at most.
 use Rattle.std.proofs.Common.{◌≡◌, ℕ, List, [], ◌∷◌, ◌++◌, sym, ap, ◌∙◌, subst, inl, inr, append_assoc}
-use Rattle.kiss.specs.declared.whole.Part.{Part}
-use Rattle.kiss.specs.declared.whole.Part.TheVariants.{Frame, Dropped, Passed}
-use Rattle.ax25_frames.specs.Laws.{IsNoFrame, IsOneFault, IsOneFrame}
-use Rattle.header_tool.specs.Frames.FrameLine.{fault_line, frame_line}
-use Rattle.header_tool.specs.Frames.FramesText.{LineOf, LinesOf, line_feed}
+use Rattle.header_tool.proofs.Names.{Part, Frame, Dropped, Passed, IsNoFrame, IsOneFault, IsOneFrame, fault_line, frame_line, LineOf, LinesOf, line_feed}
 
 -- a line before a text
 line_before : (line rest more : List ℕ) → (line ++ line_feed ∷ rest) ++ more ≡ line ++ line_feed ∷ (rest ++ more)

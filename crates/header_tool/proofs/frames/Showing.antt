@@ -1,14 +1,10 @@
 -- What is shown of the parts so far, and how showing goes on, ends, and stops at a fault.
 use Rattle.std.proofs.Common.{◌≡◌, ℕ, suc, ◌+◌, ◌<◌, List, [], ◌∷◌, ◌++◌, length, take, drop, ◌-◌, slice_index, refl, sym, ap, ◌∙◌}
 use Rattle.std.proofs.Common.{subst, arith, append_assoc, append-nil, drop-cons, length-drop, drop-drop, take-append-drop}
-use Rattle.std.proofs.lemmas.List.{take_all}
-use Rattle.std.specs.Prelude.{Option, Result, Ok, Err, IsErr, MatchResult, OnOk, OnErr}
 use Rattle.px_base.specs.Outside.{Gains, GainsPrefix}
 use Rattle.px_base.proofs.Told.{Gains-none, Gains-trans, GainsPrefix-after}
-use Rattle.kiss.specs.declared.whole.Part.{Part}
-use Rattle.kiss.specs.KissText.{kiss_parts}
-use Rattle.header_tool.specs.Frames.FramesText.{FramesText, LinesOf}
 use Rattle.header_tool.specs.Frames.Gathering.{Gathers, IsGathered}
+use Rattle.header_tool.proofs.Names.{take_all, Option, Result, Ok, Err, IsErr, MatchResult, OnOk, OnErr, Part, kiss_parts, FramesText, LinesOf}
 use Rattle.header_tool.proofs.frames.Lines.{LinesOf-append, rest_text}
 
 -- what was gathered first and what was gathered then was gathered together

@@ -1,9 +1,6 @@
 -- What reaches a connection, step by step.
 use Rattle.std.proofs.Common.{List, Option, refl}
-use Rattle.px_base.specs.CallRecords.{Asks}
-use Rattle.px_base.proofs.Told.{asks_then}
-use Rattle.real_outside.specs.Tcp.Connections.{Then}
-use Rattle.real_outside.specs.declared.tcp.connection.ConnectionCall.{ConnectionCall}
+use Rattle.real_outside.proofs.Names.{Asks, asks_then, Then, ConnectionCall}
 
 -- some calls have, and then others, said as one
 pub asks_both :

@@ -1,16 +1,13 @@
 -- How many connections an air makes.
 use Rattle.std.proofs.Common.{◌≡◌, ⊎_elim, ℕ, ◌+◌, ◌≤◌, List, [], ◌∷◌, ◌++◌, Bool, true, false, Ok, Err, refl, sym, ◌∙◌}
 use Rattle.std.proofs.Common.{ap, arith}
-use Rattle.std.proofs.lemmas.Bool.{false≢true}
 use Rattle.px_base.specs.declared.air.Turn.{Turn}
 use Rattle.px_base.specs.declared.air.Turn.TheVariants as turn
-use Rattle.real_outside.specs.Tcp.Connections.{Connects, HearsAt, LimitsReads, Opens, Readies, SaysAt, Sends}
-use Rattle.real_outside.specs.Tcp.Connections.{SendsAtOnce, Then, stage_after_saying, stage_after_turn}
 use Rattle.real_outside.specs.Tcp.RunLaws.{AirCall, IsAirCall, IsRun, all_connections, run_connections}
-use Rattle.real_outside.specs.declared.tcp.connection.ConnectionCall.{ConnectionCall}
 use Rattle.real_outside.specs.declared.tcp.connection.ConnectionCall.TheVariants as call
 use Rattle.real_outside.specs.declared.tcp.connection_air.Stage.{Stage}
 use Rattle.real_outside.specs.declared.tcp.connection_air.Stage.TheVariants as stage
+use Rattle.real_outside.proofs.Names.{false≢true, Connects, HearsAt, LimitsReads, Opens, Readies, SaysAt, Sends, SendsAtOnce, Then, stage_after_saying, stage_after_turn, ConnectionCall}
 
 -- how many connections an air made that is so far
 abbrev made : Stage → ℕ

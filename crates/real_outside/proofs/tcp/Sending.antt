@@ -1,14 +1,11 @@
 -- What the calls that send octets come to.
 use Rattle.std.proofs.Common.{◌≡◌, inl, inr, ⊎_elim, ℕ, ◌+◌, ◌<◌, List, [], ◌∷◌, ◌++◌, length, take, drop, Bool, true}
 use Rattle.std.proofs.Common.{false, Ok, Err, refl, sym, ◌∙◌, ap, subst, arith, append_assoc}
-use Rattle.std.proofs.lemmas.Bool.{cases_lt, false≢true}
-use Rattle.std.proofs.lemmas.List.{drop-drop, drop_all, take-append-drop}
 use Rattle.px_base.specs.Octets.{IsFront}
-use Rattle.px_base.specs.declared.air.AirDown.{AirDown}
-use Rattle.real_outside.specs.Tcp.Connections.{Sends, WritesOnce}
+use Rattle.real_outside.specs.Tcp.Connections.{WritesOnce}
 use Rattle.real_outside.specs.Tcp.SendingLaws.{all_taken}
-use Rattle.real_outside.specs.declared.tcp.connection.ConnectionCall.{ConnectionCall}
 use Rattle.real_outside.specs.declared.tcp.connection.ConnectionCall.TheVariants as call
+use Rattle.real_outside.proofs.Names.{cases_lt, false≢true, drop-drop, drop_all, take-append-drop, AirDown, Sends, ConnectionCall}
 
 -- what is sent was taken, in order
 pub whole_send : (octets : List ℕ) (calls : List ConnectionCall) → Sends octets true calls → all_taken calls ≡ octets

@@ -1,14 +1,8 @@
 -- What a poll finds where reading answers so.
 use Rattle.std.proofs.Common.{◌≡◌, ℕ, zero, suc, ◌≤◌, List, [], ◌∷◌, length, Bool, true, false, if◌then◌else◌, Result}
 use Rattle.std.proofs.Common.{Ok, Err, IfOk, IsErr, refl, ap, arith}
-use Rattle.std.proofs.lemmas.Bool.{false≢true}
-use Rattle.px_base.specs.Polling.{turn_of}
-use Rattle.px_base.specs.declared.air.AirDown.{AirDown}
-use Rattle.px_base.specs.declared.air.Polled.{Polled}
 use Rattle.px_base.specs.declared.air.Turn.TheVariants as turn
-use Rattle.real_outside.specs.StreamCalls.{octets_read}
-use Rattle.real_outside.specs.declared.system_error.SystemError.{SystemError}
-use Rattle.real_outside.specs.Tcp.Connections.{IsPollAnswer, is_quiet, turn_for}
+use Rattle.real_outside.proofs.Names.{false≢true, turn_of, AirDown, Polled, octets_read, SystemError, IsPollAnswer, is_quiet, turn_for}
 
 failed_turn : (result : Result Polled AirDown) (room : List ℕ) → IsErr result → turn_of result room ≡ turn.Fail
 failed_turn (Ok found) room failed = absurd (false≢true failed)

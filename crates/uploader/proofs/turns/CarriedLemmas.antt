@@ -1,41 +1,13 @@
 -- What is carried out, from the asking to the answer.
 use Rattle.std.proofs.Common.{◌≡◌, ◌⊎◌, ℕ, List, [], ◌∷◌, ◌++◌, length, Bool, false, true, Result, Ok, Err, refl, ap, sym, subst, ◌∙◌, inl, inr, suc, arith, append-nil, ◌≢◌, None, IsErrOf}
-use Rattle.px_base.specs.declared.air.Turn.{Turn}
-use Rattle.px_base.proofs.Told.{Gains-none, Grows-none}
-use Rattle.disk_model.specs.declared.disk.Disk.{Ghosts}
-use Rattle.client_notes.specs.Command.{NotesCommand}
-use Rattle.client_notes.specs.Notes.{Lists}
-use Rattle.client_notes.specs.State.{IsReady, NotesState}
-use Rattle.node.specs.Course.{AtDisk, at}
-use Rattle.node.specs.Events.{NodeEvent, NodeEvents}
-use Rattle.node.specs.Laws.{OneRunLaw}
-use Rattle.node.specs.Lent.{Seen}
 use Rattle.px_base.specs.Polling.{IsButLast}
-use Rattle.node.specs.Turns.{Brought, HasAirCause, IsUnsaid, Lent, RanBy, StoppedInLast, TookAll, TookTurns, TurnsBy, lent, party_at}
-use Rattle.node.specs.declared.finished.Finished.{Finished}
+use Rattle.node.specs.Turns.{Lent, lent}
 use Rattle.node.specs.declared.finished.Finished.TheVariants as finished
-use Rattle.node.specs.declared.stop.NodeStop.{NodeStop}
 use Rattle.node.specs.declared.stop.NodeStop.TheVariants as stop
-use Rattle.ftl0_client.specs.Calls.{HasAsked}
-use Rattle.ftl0_client.specs.Client.{Client, ClientEvent, IsSilent, asking, asks}
-use Rattle.ftl0_client.specs.ClientState.{ClientState, IsClient, MayHear, outcome_in}
-use Rattle.ftl0_client.specs.Going.{GoesLaw, GoesOver, is_over}
-use Rattle.ftl0_client.specs.JobState.{IsNew, NotesGoWith}
-use Rattle.ftl0_client.specs.Laws.{OneStepLaw}
-use Rattle.ftl0_client.specs.Outcomes.{outcome_by}
-use Rattle.ftl0_client.specs.Table.{JobState}
-use Rattle.ftl0_client.specs.declared.outcome.Outcome.{Outcome}
 use Rattle.ftl0_client.specs.declared.outcome.Outcome.TheVariants as outcome
-use Rattle.uploader.specs.declared.stop.SendStop.{SendStop}
 use Rattle.uploader.specs.declared.stop.SendStop.TheVariants as send_stop
-use Rattle.uploader.specs.Stops.{answer_of}
-use Rattle.client_notes.specs.Several.{CutsOff}
-use Rattle.uploader.specs.Turns.Carried.{CarriesOut, ClientRan, CountsWhere, EndsOver, IsOpenBeforeEach, MayCarryOut, Run, asked_first, before_last}
-use Rattle.uploader.specs.Turns.Carrying.{StopsBehind, StopsOver, TakesAll}
-use Rattle.uploader.specs.Turns.Course.{CameOf, CameToSome, Past, StoppedAt, client_course, further}
-use Rattle.uploader.specs.declared.turns.station.ClientStation.{ClientStation}
+use Rattle.uploader.proofs.Names.{Turn, Gains-none, Grows-none, Ghosts, NotesCommand, Lists, IsReady, NotesState, AtDisk, at, NodeEvent, NodeEvents, OneRunLaw, Seen, Brought, HasAirCause, IsUnsaid, RanBy, StoppedInLast, TookAll, TookTurns, TurnsBy, party_at, Finished, NodeStop, HasAsked, Client, ClientEvent, IsSilent, asking, asks, ClientState, IsClient, MayHear, outcome_in, GoesLaw, GoesOver, is_over, IsNew, NotesGoWith, OneStepLaw, outcome_by, JobState, Outcome, SendStop, answer_of, CutsOff, CarriesOut, ClientRan, CountsWhere, EndsOver, IsOpenBeforeEach, MayCarryOut, Run, asked_first, before_last, StopsBehind, StopsOver, TakesAll, CameOf, CameToSome, Past, StoppedAt, client_course, further, ClientStation, cuts-none, does-nothing}
 use Rattle.uploader.proofs.turns.CourseLemmas.{came-silent, came-whole, closed-done, closed-over, goes-alike, no-split, owes-more, promised, tells-of}
-use Rattle.client_notes.proofs.Offered.{cuts-none, does-nothing}
 
 -- ---- the turns but the last
 

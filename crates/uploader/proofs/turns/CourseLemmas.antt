@@ -3,36 +3,12 @@
 use Rattle.std.proofs.Common.{inl, ◌≡◌, ℕ, List, [], ◌∷◌, ◌++◌, refl, ap, sym, ◌∙◌, subst, append_assoc, append-nil, Some, Option, ◌≢◌, true, map, false, Bool, not, ◌||◌, ◌&&◌, Err, true≢false, IsErrOf, length, take, arith, take-append-drop, drop}
 use Rattle.std.proofs.lemmas.List.Concat.{flat_map-append}
 use Rattle.kiss.specs.KissText.{kiss_text}
-use Rattle.ax25_frames.specs.FrameText.{FrameValue, canonical}
-use Rattle.client_notes.specs.Command.{NotesCommand}
-use Rattle.ftl0_client.specs.Client.{Client, ClientEvent, ClientSends, IsSilent, client_next, asks, Refused, sends_by, sends_of_attempt, sends_of_link, attempt_for, client_hearing, hearing_by, hears}
-use Rattle.ftl0_client.specs.ClientState.{ClientState, listing_in, IsClient, MayHear, GoWithAttempt, IsAttemptOf, attempt_closed, attempt_pending, client_closed, client_pending, outcome_in}
 use Rattle.ftl0_client.specs.ClientStep.{ClientStep, Empties, happening}
-use Rattle.ftl0_client.specs.declared.outcome.Outcome.{Outcome}
-use Rattle.ftl0_client.specs.Laws.{OneStepLaw, IsToldDownOf}
-use Rattle.uploader.specs.Turns.Carrying.{StopsBehind, text_of, TakesAll, event_of, StopsAt}
-use Rattle.ftl0_client.specs.Going.{GoesOver, AsksNothing, Comes, GoesLaw, Promises, is_over, is_over_at}
-use Rattle.uploader.specs.Turns.Course.{CameToSome, Owes, CameOf, IsFit, OwesBy, Past, StoppedAt, all_events, client_course, further, HaltsBy, IsQuiet}
-use Rattle.node.specs.declared.stop.NodeStop.{NodeStop}
-use Rattle.ftl0_client.specs.Outcomes.{outcome_by, outcome_as}
 use Rattle.node.specs.declared.stop.NodeStop.TheVariants as stop
-use Rattle.std.specs.List.{AllByRecursion}
-use Rattle.client_notes.specs.Notes.{Lists, is_same_call}
 use Rattle.node.specs.Events as node
-use Rattle.node.specs.Events.{NodeEvent}
-use Rattle.ftl0_client.specs.JobState.{IsNew, NotesGoWith}
-use Rattle.ftl0_client.specs.Table.{JobState, listing_of, job_row}
 use Rattle.ftl0_client.specs.Attempt.Attempted.{Attempted}
 use Rattle.ftl0_client.specs.declared.outcome.Outcome.TheVariants as outcome
 use Rattle.uploader.specs.Turns.Came.{listing_by, TellsOf}
-use Rattle.uploader.specs.Turns.Carried.{asked_first}
-use Rattle.std.proofs.lemmas.List.{map-append}
-use Rattle.std.specs.Prelude.{None, ⊤}
-use Rattle.disk_model.specs.declared.disk.Disk.{Ghosts}
-use Rattle.client_notes.specs.Several.{DoesSeveral, CutsOff}
-use Rattle.client_notes.proofs.Offered.{Several-then, cuts-none, cuts-then, Several-same}
-use Rattle.node.specs.Course.{AtDisk, IsLawful, GaveAll, GivesNext, at, stop_at_put, stop_of}
-use Rattle.uploader.specs.declared.turns.station.ClientStation.{ClientStation}
 use Rattle.std.proofs.lemmas.Option.{same_Some}
 use Rattle.ax25_link.specs.Kept.{Kept, is_pending, is_there}
 use Rattle.ax25_link.specs.Sending.{Sending, next_sending}
@@ -41,11 +17,7 @@ use Rattle.ax25_link.specs.Window.{Window}
 use Rattle.ftl0_client.specs.Attempt.Attempted as attempted
 use Rattle.ftl0_client.specs.Attempt.AttemptState.{AttemptState, StopsAmong}
 use Rattle.ax25_link.specs.declared.state.Why.{Why}
-use Rattle.ftl0_client.specs.Calls.{SameAttempt, SameButFrames, HandsOut, HandsOutNext, StopsBy}
-use Rattle.ftl0_client.proofs.KeptLemmas.{may-kept}
 use Rattle.px_base.specs.Octets.{IsFront}
-use Rattle.client_notes.specs.State.{NotesState}
-use Rattle.node.specs.declared.finished.Finished.{Finished}
 use Rattle.disk_model.specs.declared.halt.Halt.{Halt}
 use Rattle.std.proofs.lemmas.Bool.{cond_both}
 use Rattle.ax25_link.specs.declared.state.Heard.{Heard}
@@ -60,6 +32,7 @@ use Rattle.ftl0_client.proofs.attempt.DownLemmas.{still-silent}
 use Rattle.ftl0_client.proofs.attempt.EndedLemmas.{taking-ended, told-job}
 use Rattle.disk_model.specs.declared.halt.Halt.TheVariants as halt
 use Rattle.ftl0_client.proofs.attempt.TakingLemmas.{noted-front}
+use Rattle.uploader.proofs.Names.{FrameValue, canonical, NotesCommand, Client, ClientEvent, ClientSends, IsSilent, client_next, asks, Refused, sends_by, sends_of_attempt, sends_of_link, attempt_for, client_hearing, hearing_by, hears, ClientState, listing_in, IsClient, MayHear, GoWithAttempt, IsAttemptOf, attempt_closed, attempt_pending, client_closed, client_pending, outcome_in, Outcome, OneStepLaw, IsToldDownOf, StopsBehind, text_of, TakesAll, event_of, StopsAt, GoesOver, AsksNothing, Comes, GoesLaw, Promises, is_over, is_over_at, CameToSome, Owes, CameOf, IsFit, OwesBy, Past, StoppedAt, all_events, client_course, further, HaltsBy, IsQuiet, NodeStop, outcome_by, outcome_as, AllByRecursion, Lists, is_same_call, NodeEvent, IsNew, NotesGoWith, JobState, listing_of, job_row, asked_first, map-append, None, ⊤, Ghosts, DoesSeveral, CutsOff, Several-then, cuts-none, cuts-then, Several-same, AtDisk, IsLawful, GaveAll, GivesNext, at, stop_at_put, stop_of, ClientStation, SameAttempt, SameButFrames, HandsOut, HandsOutNext, StopsBy, may-kept, NotesState, Finished}
 
 -- one frame more
 pub text-more : (xs : List FrameValue) (x : FrameValue) → text_of (xs ++ x ∷ []) ≡ text_of xs ++ kiss_text (canonical x)

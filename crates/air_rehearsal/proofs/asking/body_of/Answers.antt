@@ -1,7 +1,6 @@
 -- The octet that is pushed is the next one of the body.
 use Rattle.std.proofs.Common.{◌≡◌, ℕ, ◌+◌, ◌*◌, ◌%◌, List, [], ◌∷◌, ◌++◌, sym, ap, ◌∙◌, arith}
-use Rattle.std.proofs.lemmas.List.FromFn.{map-range_with_len_more}
-use Rattle.air_files.specs.Uploads.{body_octets}
+use Rattle.air_rehearsal.proofs.Names.{map-range_with_len_more, body_octets}
 use Rattle.air_rehearsal.proofs.asking.body_of.Goals as goal
 
 pub loop-i-preserved : goal.loop-i-preserved

@@ -1,6 +1,5 @@
 use Rattle.std.proofs.Common.{◌∙◌, sym, subst}
-use Rattle.std.specs.Prelude.{List}
-use Rattle.disk_model.specs.Cuts.{AreFresh, cuts_by}
+use Rattle.air_rehearsal.proofs.Names.{List, AreFresh, cuts_by}
 use Rattle.air_rehearsal.proofs.generator.drive.Goals as goal
 
 pub drive_over-requires : goal.drive_over-requires

@@ -1,14 +1,6 @@
 -- The turns of all rounds are played, and then the rehearsal ends.
 use Rattle.std.proofs.Common.{[], ◌∷◌, length, refl, ap, inl, inr, subst, arith, ◌∙◌}
-use Rattle.std.specs.Prelude.{List}
-use Rattle.std.proofs.lemmas.Result.{IfOk-weaker}
-use Rattle.px_base.specs.CallSign.{CallSign}
-use Rattle.disk_model.specs.Cuts.{cuts_by}
-use Rattle.air_world.specs.World.{first_world}
-use Rattle.air_rehearsal.specs.Halfway.{StopsOpening}
-use Rattle.air_rehearsal.specs.Opening.{OpensAll}
-use Rattle.air_rehearsal.specs.ServerEvents.{CanCount}
-use Rattle.air_rehearsal.specs.Stations.{the_server}
+use Rattle.air_rehearsal.proofs.Names.{List, IfOk-weaker, CallSign, cuts_by, first_world, StopsOpening, OpensAll, CanCount, the_server}
 use Rattle.air_rehearsal.proofs.DriveLemmas.{played_by}
 use Rattle.air_rehearsal.proofs.DrivenLemmas.{drawn_schedule, driven, halts-at-end, halts-drawn}
 use Rattle.air_rehearsal.proofs.DrawnCalls.{drawn-lawful}

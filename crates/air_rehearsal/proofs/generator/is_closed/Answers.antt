@@ -1,7 +1,7 @@
 -- By the client of the number, which has nothing to send.
 use Rattle.std.proofs.Common.{refl, sym, subst}
-use Rattle.std.specs.Prelude.{◌↔◌, Bool, IsTrue}
-use Rattle.air_rehearsal.specs.Generator.{IsClosed, IsClosedBy}
+use Rattle.std.specs.Prelude.{◌↔◌}
+use Rattle.air_rehearsal.proofs.Names.{Bool, IsTrue, IsClosed, IsClosedBy}
 use Rattle.air_rehearsal.proofs.NumberedLemmas.{closed-here, none-here}
 use Rattle.air_rehearsal.proofs.generator.is_closed.Goals as goal
 

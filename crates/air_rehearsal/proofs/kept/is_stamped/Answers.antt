@@ -1,8 +1,6 @@
 -- The octets say a moment, and the file that is stamped with that is them.
 use Rattle.std.proofs.Common.{◌≡◌, ℕ, List, length, drop, ap, sym, ◌∙◌, rules}
-use Rattle.px_base.specs.CallSign.{IsCall}
-use Rattle.px_base.specs.Numbers.{le32, le32_octets}
-use Rattle.pfh_items.specs.Stamp.{stamped}
+use Rattle.air_rehearsal.proofs.Names.{IsCall, le32, le32_octets, stamped}
 use Rattle.air_rehearsal.proofs.KeptLemmas.{written}
 use Rattle.air_rehearsal.proofs.StampedTime.{stamped-again, upload-says}
 use Rattle.air_rehearsal.proofs.kept.is_stamped.Goals as goal

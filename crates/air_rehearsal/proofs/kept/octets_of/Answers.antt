@@ -1,9 +1,6 @@
 -- What memory tells of a file that is kept on the disk is told of the file that is read.
 use Rattle.std.proofs.Common.{◌≡◌, true, false, Some, ap, sym, ◌∙◌}
-use Rattle.std.proofs.lemmas.Option.{same_Some}
-use Rattle.file_store.specs.EntriesInfo.{Info}
-use Rattle.file_store.specs.State.{store_in, store_on}
-use Rattle.ftl0_session.proofs.uploads.UploadRows.{same_call-decides}
+use Rattle.air_rehearsal.proofs.Names.{same_Some, Info, store_in, store_on, same_call-decides}
 use Rattle.air_rehearsal.proofs.KeptLemmas.{info-kept, stamped-kept}
 use Rattle.air_rehearsal.proofs.ServingSent.{if-ok-more}
 use Rattle.air_rehearsal.proofs.kept.octets_of.Goals.{in_default-via-in-Some+then-info+else-eq, in_default-via-in-Some+else-info, in_default-via-in_default}

@@ -1,8 +1,6 @@
 -- As many octets are read as the file has on its disk.
 use Rattle.std.proofs.Common.{◌≡◌, ℕ, List, length, drop, take, ap, ◌∙◌}
-use Rattle.std.proofs.Math.Seq.{take-length}
-use Rattle.file_store.specs.State.{store_in, store_on}
-use Rattle.file_store.specs.Store.{entry_of, octets_at}
+use Rattle.air_rehearsal.proofs.Names.{take-length, store_in, store_on, entry_of, octets_at}
 use Rattle.air_rehearsal.proofs.KeptLemmas.{info-length, written}
 use Rattle.air_rehearsal.proofs.kept.read_all.Goals as goal
 

@@ -1,12 +1,6 @@
 -- The items of the file are those that are found in it.
 use Rattle.std.proofs.Common.{◌≡◌, ◌≢◌, ℕ, List, length, None, Some, ap, sym, ◌∙◌, arith, rules}
-use Rattle.std.specs.Prelude.{option_copied}
-use Rattle.std.proofs.lemmas.Bool.Decides.{nat_tests}
-use Rattle.px_base.specs.Numbers.{le32}
-use Rattle.pfh_items.specs.Faults.{field_of}
-use Rattle.pfh_items.specs.Layout.{ItemValue}
-use Rattle.pfh_items.proofs.Offered.{one_header}
-use Rattle.air_rehearsal.specs.Ending.{number_in}
+use Rattle.air_rehearsal.proofs.Names.{option_copied, nat_tests, le32, field_of, ItemValue, one_header, number_in}
 use Rattle.air_rehearsal.proofs.kept.upload_time.Goals as goal
 
 number-other : (octets : List ℕ) → length octets ≢ 4 → number_in (Some octets) ≡ None

@@ -1,6 +1,6 @@
 -- Octets that a frame for the station has are read as that frame.
 use Rattle.std.proofs.Common.{◌≡◌, sym, ap, ◌∙◌, true, false}
-use Rattle.ax25_frames.specs.FrameText.{FrameValue}
+use Rattle.air_rehearsal.proofs.Names.{FrameValue}
 use Rattle.air_rehearsal.proofs.HeardLemmas.{same_call}
 use Rattle.air_rehearsal.proofs.party.frame_for.Goals.{in_default-via-in-Ok+then-eq+else-read_frame-eq0, in_default-via-in-Ok+else-eq, in_default-via-in_default}
 use Rattle.air_rehearsal.proofs.party.frame_for.Goals as goal

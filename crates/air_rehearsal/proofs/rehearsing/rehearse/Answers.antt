@@ -1,6 +1,5 @@
 use Rattle.std.proofs.Common.{◌∙◌, sym, subst}
-use Rattle.std.specs.Prelude.{List}
-use Rattle.disk_model.specs.Cuts.{AreFresh, cuts_by}
+use Rattle.air_rehearsal.proofs.Names.{List, AreFresh, cuts_by}
 use Rattle.air_rehearsal.proofs.rehearsing.rehearse.Goals as goal
 
 pub rehearse_over-requires : goal.rehearse_over-requires

@@ -1,21 +1,7 @@
 use Rattle.std.proofs.Common.{◌≡◌, ◌∷◌, ℕ, Ok, Err, IsErrAnd, Result, ◌+◌, ◌≤◌, length, sym, ap, inl, inr, ◌∙◌, subst, arith, refl}
-use Rattle.std.specs.Prelude.{List, map, slice_get, Some, false, true}
-use Rattle.std.specs.Option.{option_map}
 use Rattle.std.proofs.Common.{◌%◌}
-use Rattle.std.proofs.lemmas.List.{length-map}
-use Rattle.std.proofs.lemmas.Option.{slice_get-map, slice_get_read}
-use Rattle.disk_model.specs.Cuts.{cuts_by}
-use Rattle.px_base.specs.CallSign.{CallSign}
-use Rattle.air_world.specs.Lawful.{IsAllowed, IsPossible}
-use Rattle.air_world.specs.Schedule.{Event, IsInRange}
-use Rattle.air_world.specs.World.{World}
-use Rattle.air_schedule.specs.Events.{event_value}
-use Rattle.air_rehearsal.specs.Halfway.{StopsOpening}
-use Rattle.air_rehearsal.specs.Opening.{OpensAll}
-use Rattle.air_rehearsal.specs.Playing.{bench_of}
-use Rattle.air_rehearsal.specs.ServerEvents.{CanCount}
-use Rattle.air_rehearsal.specs.Stations.{the_server}
 use Rattle.air_rehearsal.specs.declared.rehearsing.RehearseStop.TheVariants as stop
+use Rattle.air_rehearsal.proofs.Names.{List, map, slice_get, Some, false, true, option_map, length-map, slice_get-map, slice_get_read, cuts_by, CallSign, IsAllowed, IsPossible, Event, IsInRange, World, event_value, StopsOpening, OpensAll, bench_of, CanCount, the_server}
 use Rattle.air_rehearsal.proofs.Along.{all_there, ends_there, goes_along, stops_there, wants_at_end, wants_there}
 use Rattle.air_rehearsal.proofs.FirstBench.{played_first}
 use Rattle.air_rehearsal.proofs.HalfwayOpening.{all_opened, stopped_opening}

@@ -1,10 +1,6 @@
 -- What was played so far: the first of the schedule's events, so many as the loop has seen.
-use Rattle.std.specs.Prelude.{◌≡◌, ◌+◌, ◌∷◌, length, take}
-use Rattle.disk_model.specs.Cuts.{cuts_by}
-use Rattle.air_rehearsal.specs.Playing.{bench_of}
-use Rattle.air_rehearsal.specs.Ready.{AreReady, IsReadyServer}
-use Rattle.air_rehearsal.specs.Rehearsed.{until}
-use Rattle.air_rehearsal.specs.ServerEvents.{CanCount}
+use Rattle.std.specs.Prelude.{◌≡◌, ◌+◌, ◌∷◌}
+use Rattle.air_rehearsal.proofs.Names.{length, take, cuts_by, bench_of, AreReady, IsReadyServer, until, CanCount}
 use Rattle.air_rehearsal.proofs.WholePlay.{PlayedSome}
 use Rattle.air_rehearsal.proofs.rehearsing.rehearse_over.Given as goal
 

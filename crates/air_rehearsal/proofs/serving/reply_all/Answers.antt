@@ -1,6 +1,6 @@
 -- Each frame is handed out by the server and replied in the attempt, until nothing is left.
 use Rattle.std.proofs.Common.{ℕ, List, refl, sym, subst, ◌∙◌}
-use Rattle.ax25_frames.specs.FrameText.{FrameText}
+use Rattle.air_rehearsal.proofs.Names.{FrameText}
 use Rattle.air_rehearsal.proofs.ServingSent.{on-ok, replies-all, replies-first, replies-more}
 use Rattle.air_rehearsal.proofs.serving.reply_all.Goals as goal
 

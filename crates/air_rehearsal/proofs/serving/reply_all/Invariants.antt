@@ -1,8 +1,5 @@
 -- The server has sent some frames, as replies in the attempt, and has fewer to give out.
-use Rattle.file_store.specs.Store.{Store}
-use Rattle.ftl0_server.specs.Calls.{SameStore}
-use Rattle.ftl0_server.specs.Server.{Server}
-use Rattle.ftl0_server.specs.ServerState.{IsServer, server_most}
+use Rattle.air_rehearsal.proofs.Names.{Store, SameStore, Server, IsServer, server_most}
 use Rattle.air_rehearsal.proofs.ServingSent.{RepliesSoFar}
 use Rattle.air_rehearsal.proofs.serving.reply_all.Given as goal
 

@@ -1,7 +1,6 @@
 -- The frame is sent to the client that it is for, and to no other one.
 use Rattle.std.proofs.Common.{sym, ap, ◌∙◌}
-use Rattle.px_base.specs.CallSign.{CallSign}
-use Rattle.ftl0_session.specs.Uploads.Session.{is_same_call}
+use Rattle.air_rehearsal.proofs.Names.{CallSign, is_same_call}
 use Rattle.air_rehearsal.proofs.ServingCalls.{timed-other, timed-own}
 use Rattle.air_rehearsal.proofs.serving.send_to.Goals as goal
 

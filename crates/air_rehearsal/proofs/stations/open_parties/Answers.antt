@@ -1,11 +1,6 @@
 -- One client more is opened and ready, and those before are so still.
 use Rattle.std.proofs.Common.{◌≡◌, ℕ, ◌+◌, ◌<◌, List, [], ◌∷◌, ◌++◌, get_or, length, Some, sym, subst, rules, arith}
-use Rattle.std.specs.Prelude.{slice_get, slice_set}
-use Rattle.std.proofs.lemmas.Option.{slice_get-get_or}
-use Rattle.disk_model.specs.Cuts.{Cuts, cuts_by}
-use Rattle.air_rehearsal.specs.Opening.{OpensFirst}
-use Rattle.air_rehearsal.specs.Ready.{AreReady}
-use Rattle.air_rehearsal.specs.declared.party.Party.{Party}
+use Rattle.air_rehearsal.proofs.Names.{slice_get, slice_set, slice_get-get_or, Cuts, cuts_by, OpensFirst, AreReady, Party}
 use Rattle.air_rehearsal.proofs.HalfwayOpening.{stops_opening}
 use Rattle.air_rehearsal.proofs.HalfwayServer.{on_err_of}
 use Rattle.air_rehearsal.proofs.OpeningLemmas.{none_ready, opens_more, opens_none}

@@ -1,7 +1,5 @@
 -- The clients so far are opened, each over its disk, and ready.
-use Rattle.disk_model.specs.Cuts.{cuts_by}
-use Rattle.air_rehearsal.specs.Opening.{OpensFirst}
-use Rattle.air_rehearsal.specs.Ready.{AreReady}
+use Rattle.air_rehearsal.proofs.Names.{cuts_by, OpensFirst, AreReady}
 use Rattle.air_rehearsal.proofs.stations.open_parties.Given as goal
 
 abbrev pub invariant-loop-c : goal.invariant-loop-c

@@ -1,7 +1,6 @@
 -- The arming is taken away, and the client starts from the disk. A fresh disk is so without its arming too.
 use Rattle.std.proofs.Common.{sym, subst, ◌∙◌}
-use Rattle.file_journal.specs.Calls.{EachImage}
-use Rattle.client_notes.specs.State.{NotesState, StandsFor}
+use Rattle.air_rehearsal.proofs.Names.{EachImage, NotesState, StandsFor}
 use Rattle.air_rehearsal.proofs.stations.open_party.Goals as goal
 
 pub returns-clause-opens : goal.returns-clause-opens

@@ -1,6 +1,6 @@
 -- There is no other job.
 use Rattle.std.proofs.Common.{◌≡◌, ◌∷◌, sym, ◌∙◌}
-use Rattle.air_schedule.specs.Text.{words_of}
+use Rattle.air_schedule.proofs.Names.{words_of}
 use Rattle.air_schedule.proofs.EventCases.{no_job}
 use Rattle.air_schedule.proofs.WordLemmas.{other_words}
 use Rattle.air_schedule.proofs.ask.read_job.Goals as goal

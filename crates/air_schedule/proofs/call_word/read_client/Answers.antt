@@ -1,7 +1,6 @@
 -- A call is one word.
 use Rattle.std.proofs.Common.{◌≡◌, [], ◌∷◌, codes, subst, sym, ◌∙◌}
-use Rattle.px_base.specs.CallSign.{CallText}
-use Rattle.air_schedule.specs.Text.{words_of}
+use Rattle.air_schedule.proofs.Names.{CallText, words_of}
 use Rattle.air_schedule.proofs.WordLemmas.{IsWord-call, same_words, sole_word, words_of-word}
 use Rattle.air_schedule.proofs.call_word.read_client.Goals as goal
 

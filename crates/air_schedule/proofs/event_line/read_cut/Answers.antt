@@ -1,6 +1,6 @@
 -- No event is cut at call 0.
 use Rattle.std.proofs.Common.{◌≡◌, [], ◌∷◌, codes, decimal, subst, ap}
-use Rattle.air_schedule.specs.Text.{EventText, words_of}
+use Rattle.air_schedule.proofs.Names.{EventText, words_of}
 use Rattle.air_schedule.proofs.EventCases.{zero_cut}
 use Rattle.air_schedule.proofs.event_line.read_cut.Goals as goal
 

@@ -1,9 +1,6 @@
 -- The decimal text of a number is read as that number, and it is one word.
 use Rattle.std.proofs.Common.{◌≡◌, ℕ, ◌<◌, ◌^◌, Ok, true, decimal, bytes_eq, sym, ◌∙◌, ap, arith}
-use Rattle.std.specs.Prelude.{not}
-use Rattle.std.proofs.lemmas.Bool.{false≢true}
-use Rattle.std.proofs.lemmas.Fmt.{parse-decimal}
-use Rattle.std.proofs.lemmas.Slice.Eq.{bytes_eq-Decides}
+use Rattle.air_schedule.proofs.Names.{not, false≢true, parse-decimal, bytes_eq-Decides}
 use Rattle.air_schedule.proofs.WordLemmas.{IsWord-decimal, same_words, sole_word, words_of-word}
 use Rattle.air_schedule.proofs.number.read_number.Goals.{In_default, Then-ne}
 use Rattle.air_schedule.proofs.number.read_number.Goals as goal

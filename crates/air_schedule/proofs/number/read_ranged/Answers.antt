@@ -1,6 +1,6 @@
 -- The number that is read is the one that the word writes.
 use Rattle.std.proofs.Common.{◌≡◌, decimal, inl, inr, arith}
-use Rattle.std.proofs.lemmas.Fmt.{decimal_injective}
+use Rattle.air_schedule.proofs.Names.{decimal_injective}
 use Rattle.air_schedule.proofs.number.read_ranged.Goals as goal
 
 pub returns-then-number-low : goal.returns-then-number-low

@@ -1,9 +1,8 @@
 -- The LF is where the first line ends.
 use Rattle.std.proofs.Common.{◌≡◌, ◌+◌, ◌-◌, length, drop, eqb, sym, ◌∙◌, rules, tests, arith, length-drop}
-use Rattle.std.specs.List.{position}
 use Rattle.std.proofs.lemmas.Iterator.{YieldsList-from_slice}
 use Rattle.std.proofs.lemmas.Iterator.Search.{position_from_yields_List}
-use Rattle.std.proofs.lemmas.List.{take_all}
+use Rattle.air_schedule.proofs.Names.{position, take_all}
 use Rattle.air_schedule.proofs.SplitLemmas.{first_line, no_line}
 use Rattle.air_schedule.proofs.split.split_line.Goals.{In-None, In-Some}
 use Rattle.air_schedule.proofs.split.split_line.Goals as goal

@@ -1,15 +1,7 @@
 -- What decodes is twice as long as its tokens, and one word.
 use Rattle.std.proofs.Common.{◌≡◌, List, ℕ, ◌*◌, ◌≤◌, ◌<◌, [], ◌∷◌, Ok, Err, length, subst, ap, sym, ◌∙◌, inl, inr, arith}
-use Rattle.std.proofs.lemmas.Bool.{eqb-false, eqb-true}
-use Rattle.std.proofs.lemmas.List.Elements.{All-from_get_or}
-use Rattle.hex.specs.Hex.{decode_of}
-use Rattle.hex.proofs.HexLemmas.{decode_of-ok}
 use Rattle.hex.specs.declared.error.FromHexError.{FromHexError}
-use Rattle.air_schedule.specs.Causes.{IsCause, fault_of_hex}
-use Rattle.air_schedule.specs.declared.fault.LineFault.{LineFault}
-use Rattle.air_schedule.specs.declared.fault.LineFault.TheVariants.{NoLine, OutOfMemory}
-use Rattle.air_schedule.specs.Schedule.{AreTokens}
-use Rattle.air_schedule.specs.Text.{words_of}
+use Rattle.air_schedule.proofs.Names.{eqb-false, eqb-true, All-from_get_or, decode_of, decode_of-ok, IsCause, fault_of_hex, LineFault, NoLine, OutOfMemory, AreTokens, words_of}
 use Rattle.air_schedule.proofs.WordLemmas.{IsWord-hex, sole_word, words_of-word}
 use Rattle.air_schedule.proofs.tokens.read_tokens.Goals.{then-is_empty-via-then-is_empty, then-is_empty-via-else-is_empty+then-word}
 use Rattle.air_schedule.proofs.tokens.read_tokens.Goals as goal

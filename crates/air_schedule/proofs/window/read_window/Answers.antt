@@ -1,5 +1,5 @@
 -- A line that is no text is none of a schedule.
-use Rattle.air_schedule.specs.Text.{window_line}
+use Rattle.air_schedule.proofs.Names.{window_line}
 use Rattle.air_schedule.proofs.LineLemmas.{line_is_text}
 use Rattle.air_schedule.proofs.window.read_window.Goals as goal
 

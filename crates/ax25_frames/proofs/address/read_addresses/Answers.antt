@@ -1,7 +1,6 @@
 -- Destination, source and repeaters.
 use Rattle.std.proofs.Common.{◌+◌, ◌*◌, [], ℕ, Bool, false, sym, subst, refl}
-use Rattle.ax25_frames.specs.Addresses.{BeginsUnended}
-use Rattle.ax25_frames.specs.Reading.{AddressesAt, EntryAt}
+use Rattle.ax25_frames.proofs.Names.{BeginsUnended, AddressesAt, EntryAt}
 use Rattle.ax25_frames.proofs.FaultLemmas.{ended_destination, more_unended}
 use Rattle.ax25_frames.proofs.ReadLemmas.{addresses_two, addresses_more}
 use Rattle.ax25_frames.proofs.address.read_addresses.Goals as goal

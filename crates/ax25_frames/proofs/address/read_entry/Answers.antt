@@ -1,6 +1,6 @@
 -- An entry that was read, or its fault.
 use Rattle.std.proofs.Common.{ℕ, ◌*◌, ◌<◌, arith}
-use Rattle.std.proofs.lemmas.List.Elements.{All-from_get_or}
+use Rattle.ax25_frames.proofs.Names.{All-from_get_or}
 use Rattle.ax25_frames.proofs.FaultLemmas.{bad_entry, short_entry}
 use Rattle.ax25_frames.proofs.ReadLemmas.{unended_within, call_read, entry_read, octets_after}
 use Rattle.ax25_frames.proofs.address.read_entry.Goals as goal

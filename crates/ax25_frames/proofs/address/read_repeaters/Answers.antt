@@ -1,7 +1,6 @@
 -- One more repeater entry, and the last one.
 use Rattle.std.proofs.Common.{◌≡◌, ◌+◌, arith, ℕ, Bool, true, false, subst}
-use Rattle.ax25_frames.specs.Addresses.{BeginsUnended}
-use Rattle.ax25_frames.specs.Reading.{EntryAt}
+use Rattle.ax25_frames.proofs.Names.{BeginsUnended, EntryAt}
 use Rattle.ax25_frames.proofs.FaultLemmas.{too_many, more_unended}
 use Rattle.ax25_frames.proofs.ReadLemmas.{repeaters_more, repeaters_end}
 use Rattle.ax25_frames.proofs.address.read_repeaters.Goals as goal

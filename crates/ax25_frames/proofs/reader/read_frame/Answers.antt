@@ -1,11 +1,6 @@
 -- The frame that was read, or the first fault.
 use Rattle.std.proofs.Common.{rules, ◌<◌, ◌≡◌, ◌+◌, ◌*◌, ℕ, Bool, arith, sym, ap, ◌∙◌, subst, drop, slice_index}
-use Rattle.std.proofs.lemmas.List.Elements.{All-from_get_or}
-use Rattle.ax25_frames.specs.declared.frame.FrameFault.TheVariants.{BadControl}
-use Rattle.ax25_frames.specs.FrameText.{FrameValue, FrameText}
-use Rattle.ax25_frames.specs.Faults.{FaultAt}
-use Rattle.ax25_frames.specs.Values.{kind_value}
-use Rattle.ax25_frames.specs.Kinds.{poll_bit}
+use Rattle.ax25_frames.proofs.Names.{All-from_get_or, BadControl, FrameValue, FrameText, FaultAt, kind_value, poll_bit}
 use Rattle.ax25_frames.proofs.FrameLemmas.{no_frame, one_frame}
 use Rattle.ax25_frames.proofs.ReadLemmas.{short_at, control_fault, rest_fault_at, frame_at, octets_after}
 use Rattle.ax25_frames.proofs.reader.read_frame.Goals as goal

@@ -1,8 +1,6 @@
 use Rattle.std.proofs.Common.{ℕ, ◌<◌, arith, refl, subst, sym}
-use Rattle.std.proofs.lemmas.List.Elements.{All-from_get_or}
-use Rattle.px_base.specs.Octets.{IsOctets}
 use Rattle.ax25_frames.specs.declared.control.Control.TheVariants as control
-use Rattle.ax25_frames.specs.Kinds.{FitsControl}
+use Rattle.ax25_frames.proofs.Names.{All-from_get_or, IsOctets, FitsControl}
 use Rattle.ax25_frames.proofs.KindLemmas.{fits_information}
 use Rattle.ax25_frames.proofs.reader.read_kind.Goals as goal
 

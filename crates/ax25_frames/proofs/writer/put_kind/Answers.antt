@@ -1,8 +1,7 @@
 -- The kinds with information have their ranges.
 use Rattle.std.proofs.Common.{inl, inr, refl, sym, ap, subst}
 use Rattle.ax25_frames.specs.declared.control.Control.TheVariants as control
-use Rattle.ax25_frames.specs.Kinds.{CanWrite, FitsKind}
-use Rattle.ax25_frames.specs.Values.{kind_value}
+use Rattle.ax25_frames.proofs.Names.{CanWrite, FitsKind, kind_value}
 use Rattle.ax25_frames.proofs.KindLemmas.{fits_information}
 use Rattle.ax25_frames.proofs.writer.put_kind.Goals as goal
 

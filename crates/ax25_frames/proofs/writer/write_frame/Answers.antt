@@ -1,8 +1,6 @@
 -- The canonical text is a text of the frame.
 use Rattle.std.proofs.Common.{◌≡◌, arith, sym, subst}
-use Rattle.std.proofs.lemmas.Grind.{common_steps}
-use Rattle.ax25_frames.specs.FrameText.{FrameText, FrameValue, IsFrame, canonical}
-use Rattle.ax25_frames.specs.Values.{value_of}
+use Rattle.ax25_frames.proofs.Names.{common_steps, FrameText, FrameValue, IsFrame, canonical, value_of}
 use Rattle.ax25_frames.proofs.FrameLemmas.{canonical_text}
 use Rattle.ax25_frames.proofs.writer.write_frame.Goals as goal
 

@@ -1,6 +1,5 @@
 use Rattle.std.proofs.Common.{ℕ, ◌-◌, ◌++◌, take, drop, ap, subst, ◌<◌, ◌∙◌, List, append_assoc}
-use Rattle.std.proofs.lemmas.List.Elements.{All-append}
-use Rattle.px_base.specs.Octets.{IsOctets}
+use Rattle.ax25_link.proofs.Names.{All-append, IsOctets}
 use Rattle.ax25_link.proofs.QueueLemmas.{range-parts}
 use Rattle.ax25_link.proofs.send_queue.put_range.Goals as goal
 

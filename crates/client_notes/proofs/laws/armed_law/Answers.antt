@@ -1,5 +1,5 @@
-use Rattle.std.proofs.lemmas.Grind.{common_steps}
 use Rattle.std.proofs.Common.{arith}
+use Rattle.client_notes.proofs.Names.{common_steps}
 use Rattle.client_notes.proofs.laws.armed_law.Goals as goal
 
 pub returns : goal.returns

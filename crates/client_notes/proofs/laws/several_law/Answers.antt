@@ -1,4 +1,4 @@
-use Rattle.std.specs.Prelude.{IsTrue}
+use Rattle.client_notes.proofs.Names.{IsTrue}
 use Rattle.client_notes.proofs.SeveralLemmas.{Several-one, Several-then}
 use Rattle.client_notes.proofs.laws.several_law.Goals as goal
 

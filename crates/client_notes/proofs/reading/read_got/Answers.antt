@@ -1,7 +1,5 @@
 use Rattle.std.proofs.Common.{◌-◌, ◌<◌, length, arith}
-use Rattle.std.proofs.lemmas.Grind.{common_steps}
-use Rattle.std.proofs.lemmas.List.Elements.{All-from_get_or}
-use Rattle.file_journal.proofs.Offered.{octets_part}
+use Rattle.client_notes.proofs.Names.{common_steps, All-from_get_or, octets_part}
 use Rattle.client_notes.proofs.RecordLemmas.{length-part}
 use Rattle.client_notes.proofs.reading.read_got.Goals as goal
 

@@ -1,7 +1,5 @@
 use Rattle.std.proofs.Common.{◌-◌, ◌<◌, length, drop, sym, arith, length-drop}
-use Rattle.std.proofs.lemmas.List.{take_all}
-use Rattle.std.proofs.lemmas.List.Elements.{All-from_get_or}
-use Rattle.file_journal.proofs.Offered.{octets_part}
+use Rattle.client_notes.proofs.Names.{take_all, All-from_get_or, octets_part}
 use Rattle.client_notes.proofs.RecordLemmas.{length-part, start-in, start_lengths}
 use Rattle.client_notes.proofs.reading.read_start.Goals as goal
 

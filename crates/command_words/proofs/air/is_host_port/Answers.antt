@@ -1,6 +1,6 @@
 -- The word is cut at its first colon.
 use Rattle.std.proofs.Common.{◌≡◌, ◌==◌, ◌∙◌, ℕ, List, length, true, false, true≢false, sym, subst}
-use Rattle.command_words.specs.Numbers.{NumberText}
+use Rattle.command_words.proofs.Names.{NumberText}
 use Rattle.command_words.proofs.HostPorts.{cut_at_colon, has_colon, host_port, number_none, number_some}
 use Rattle.command_words.proofs.air.is_host_port.Goals as goal
 

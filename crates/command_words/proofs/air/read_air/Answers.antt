@@ -1,6 +1,6 @@
 -- A word names one thing.
 use Rattle.std.proofs.Common.{◌∙◌, codes, sym, true≢false}
-use Rattle.command_words.specs.declared.air.AirWord.TheVariants.{HostPort, Nothing, Standard}
+use Rattle.command_words.proofs.Names.{HostPort, Nothing, Standard}
 use Rattle.command_words.proofs.Uses.{text_eq, text_same}
 use Rattle.command_words.proofs.Meanings.{names_none, one_air}
 use Rattle.command_words.proofs.air.read_air.Goals as goal

@@ -1,5 +1,5 @@
 -- DISK names a file and AIR an air, and the line gives what the command asks for.
-use Rattle.std.proofs.lemmas.Result.{IfOk-weaker}
+use Rattle.command_words.proofs.Names.{IfOk-weaker}
 use Rattle.command_words.proofs.Meanings.{air_text}
 use Rattle.command_words.proofs.client.client_request.Goals as goal
 

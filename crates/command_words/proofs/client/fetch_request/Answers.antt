@@ -1,8 +1,6 @@
 -- What the line gives are the terms that its texts give, a number and a name.
 use Rattle.std.proofs.Common.{ℕ, List, refl, subst}
-use Rattle.std.proofs.lemmas.Result.{err_from_is_err_and}
-use Rattle.command_words.specs.Lines.{fetch_places}
-use Rattle.command_words.specs.Numbers.{NumberText}
+use Rattle.command_words.proofs.Names.{err_from_is_err_and, fetch_places, NumberText}
 use Rattle.command_words.proofs.LineLemmas.{handed_on}
 use Rattle.command_words.proofs.Meanings.{air_from}
 use Rattle.command_words.proofs.ClientTexts.{client_agrees, client_from, number_of}

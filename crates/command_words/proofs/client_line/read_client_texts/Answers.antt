@@ -1,9 +1,6 @@
 -- The places that were read are SERVER, ME and the last one, and the values found are those of the options.
 use Rattle.std.proofs.Common.{◌∷◌, [], codes, lit<, refl, sym}
-use Rattle.std.proofs.lemmas.Result.{err_from_is_err_and}
-use Rattle.clap.specs.Words.{app_of}
-use Rattle.command_words.specs.Clients.{client_options}
-use Rattle.command_words.specs.Lines.{client_places}
+use Rattle.command_words.proofs.Names.{err_from_is_err_and, app_of, client_options, client_places}
 use Rattle.command_words.proofs.LineLemmas.{client_line, handed_on, value_got}
 use Rattle.command_words.proofs.Readings.{all_found, none_missing}
 use Rattle.command_words.proofs.client_line.read_client_texts.Goals as goal

@@ -1,7 +1,6 @@
 -- The places that were read are NAME and OUT.
 use Rattle.std.proofs.Common.{◌∷◌, [], codes, lit<, sym}
-use Rattle.std.proofs.lemmas.Result.{err_from_is_err_and}
-use Rattle.clap.specs.Words.{app_of}
+use Rattle.command_words.proofs.Names.{err_from_is_err_and, app_of}
 use Rattle.command_words.proofs.LineLemmas.{body_line, handed_on}
 use Rattle.command_words.proofs.Readings.{all_found, none_missing}
 use Rattle.command_words.proofs.line.read_body.Goals as goal

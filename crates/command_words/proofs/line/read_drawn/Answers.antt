@@ -1,8 +1,6 @@
 -- The values found are those of the options.
 use Rattle.std.proofs.Common.{[], codes, lit<, refl}
-use Rattle.std.proofs.lemmas.Result.{err_from_is_err_and}
-use Rattle.clap.specs.Words.{app_of}
-use Rattle.command_words.specs.Rehearsals.{rehearse_options}
+use Rattle.command_words.proofs.Names.{err_from_is_err_and, app_of, rehearse_options}
 use Rattle.command_words.proofs.LineLemmas.{drawn_line, handed_on, value_got}
 use Rattle.command_words.proofs.line.read_drawn.Goals as goal
 

@@ -1,7 +1,6 @@
 -- The place that was read is the NAME.
 use Rattle.std.proofs.Common.{[], ◌∷◌, codes, lit<, sym}
-use Rattle.std.proofs.lemmas.Result.{err_from_is_err_and}
-use Rattle.clap.specs.Words.{app_of}
+use Rattle.command_words.proofs.Names.{err_from_is_err_and, app_of}
 use Rattle.command_words.proofs.LineLemmas.{handed_on, name_line}
 use Rattle.command_words.proofs.Readings.{all_found, none_missing}
 use Rattle.command_words.proofs.line.read_name.Goals as goal

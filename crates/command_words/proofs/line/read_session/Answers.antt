@@ -1,8 +1,6 @@
 -- The place that was read is CALLER, and the values found are those of the options.
 use Rattle.std.proofs.Common.{◌∷◌, [], codes, lit<, refl, sym}
-use Rattle.std.proofs.lemmas.Result.{err_from_is_err_and}
-use Rattle.clap.specs.Words.{app_of}
-use Rattle.command_words.specs.Words.{session_options}
+use Rattle.command_words.proofs.Names.{err_from_is_err_and, app_of, session_options}
 use Rattle.command_words.proofs.LineLemmas.{handed_on, session_line, value_got}
 use Rattle.command_words.proofs.Readings.{all_found, none_missing}
 use Rattle.command_words.proofs.line.read_session.Goals as goal

@@ -1,7 +1,6 @@
 -- With the options to come the command has all of them.
 use Rattle.std.proofs.Common.{◌≡◌, drop, map}
-use Rattle.clap.specs.Words.{app_of}
-use Rattle.command_words.specs.Lines.{options_added}
+use Rattle.command_words.proofs.Names.{app_of, options_added}
 use Rattle.command_words.proofs.line.with_options.Given as goal
 
 abbrev pub invariant-loop-name : goal.invariant-loop-name

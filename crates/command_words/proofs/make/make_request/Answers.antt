@@ -1,7 +1,6 @@
 -- AIR has one of its forms, and the line gives a file that may be made.
 use Rattle.std.proofs.Common.{◌≡◌, ◌∙◌, None, Some, ap, not, refl, sym}
-use Rattle.std.proofs.lemmas.Result.{err_from_is_err_and}
-use Rattle.header_tool.specs.Made.{make_value, spec_refusal}
+use Rattle.command_words.proofs.Names.{err_from_is_err_and, make_value, spec_refusal}
 use Rattle.command_words.proofs.LineLemmas.{handed_on}
 use Rattle.command_words.proofs.Meanings.{air_read, air_unread, make_agrees, make_from, neither_from, neither_text, says_one}
 use Rattle.command_words.proofs.make.make_request.Goals as goal

@@ -1,8 +1,6 @@
 -- The number so far and the digits to come write the number of all digits, and those passed are digits.
 use Rattle.std.proofs.Common.{◌≡◌, drop}
-use Rattle.std.specs.List.{AllByRecursion}
-use Rattle.command_words.specs.Numbers.{IsDigit}
-use Rattle.command_words.specs.Numbers.{number_after as digits_after}
+use Rattle.command_words.proofs.Names.{AllByRecursion, IsDigit, number_after as digits_after}
 use Rattle.command_words.proofs.number.number_after.Given as goal
 
 abbrev pub invariant-loop-digit : goal.invariant-loop-digit

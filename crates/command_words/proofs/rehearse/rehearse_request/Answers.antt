@@ -1,6 +1,6 @@
 -- AIR has one of its forms, and the line gives a NAME or the two options.
 use Rattle.std.proofs.Common.{◌∙◌, ap, not}
-use Rattle.std.proofs.lemmas.Result.{err_from_is_err_and}
+use Rattle.command_words.proofs.Names.{err_from_is_err_and}
 use Rattle.command_words.proofs.LineLemmas.{handed_on}
 use Rattle.command_words.proofs.Meanings.{air_unread}
 use Rattle.command_words.proofs.RehearseTexts.{rehearse_form, rehearse_text}

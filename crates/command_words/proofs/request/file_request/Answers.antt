@@ -1,6 +1,6 @@
 -- AIR has one of its forms, and the line gives the NAME.
 use Rattle.std.proofs.Common.{◌∙◌, ap, not}
-use Rattle.std.proofs.lemmas.Result.{err_from_is_err_and}
+use Rattle.command_words.proofs.Names.{err_from_is_err_and}
 use Rattle.command_words.proofs.LineLemmas.{handed_on}
 use Rattle.command_words.proofs.Meanings.{air_read, air_unread, neither_from, neither_text}
 use Rattle.command_words.proofs.request.file_request.Goals as goal

@@ -1,14 +1,7 @@
 -- The third word is the command.
 use Rattle.std.proofs.Common.{◌≡◌, List, ◌∷◌, codes, drop, length, lit<, map, refl, string_bytes, subst, sym, take, ◌-◌, ◌∙◌}
-use Rattle.std.specs.Prelude.{Contains, IfOk}
-use Rattle.std.proofs.lemmas.Result.{IfOk-weaker}
-use Rattle.command_words.specs.Asked.{AsksFor}
-use Rattle.command_words.specs.Commands.{client_word, word_of}
-use Rattle.command_words.specs.declared.command.ClientCommand.{ClientCommand}
 use Rattle.command_words.specs.declared.command.ClientCommand.TheVariants as client
-use Rattle.command_words.specs.Words.{commands}
-use Rattle.command_words.specs.declared.command.FileCommand.{FileCommand}
-use Rattle.command_words.specs.declared.command.FileCommand.TheVariants.{Check, Frames, Show}
+use Rattle.command_words.proofs.Names.{Contains, IfOk, IfOk-weaker, AsksFor, client_word, word_of, ClientCommand, commands, FileCommand, Check, Frames, Show}
 use Rattle.command_words.proofs.Uses.{Text}
 use Rattle.command_words.proofs.Meanings.{body_usage, client_usage, make_usage, name_usage, no_command_usage, rehearse_usage, serve_usage, session_usage, three_words}
 use Rattle.command_words.proofs.request.read.Goals as goal

@@ -1,5 +1,5 @@
 -- What the line gives are the numbers and the call that its texts write.
-use Rattle.std.proofs.lemmas.Result.{err_from_is_err_and}
+use Rattle.command_words.proofs.Names.{err_from_is_err_and}
 use Rattle.command_words.proofs.LineLemmas.{handed_on}
 use Rattle.command_words.proofs.Meanings.{session_agrees, session_from}
 use Rattle.command_words.proofs.request.read_texts.Goals as goal

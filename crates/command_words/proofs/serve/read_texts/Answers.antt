@@ -1,5 +1,5 @@
 -- What the line gives are the numbers and the call that its texts write.
-use Rattle.std.proofs.lemmas.Result.{err_from_is_err_and}
+use Rattle.command_words.proofs.Names.{err_from_is_err_and}
 use Rattle.command_words.proofs.LineLemmas.{handed_on}
 use Rattle.command_words.proofs.Meanings.{serve_agrees, serve_from}
 use Rattle.command_words.proofs.serve.read_texts.Goals as goal

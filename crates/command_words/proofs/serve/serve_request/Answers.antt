@@ -1,5 +1,5 @@
 -- DISK names a file, AIR an air, and a service of these words has what was read of them.
-use Rattle.std.proofs.lemmas.Result.{err_from_is_err_and}
+use Rattle.command_words.proofs.Names.{err_from_is_err_and}
 use Rattle.command_words.proofs.LineLemmas.{handed_on}
 use Rattle.command_words.proofs.Meanings.{air_text}
 use Rattle.command_words.proofs.serve.serve_request.Goals as goal

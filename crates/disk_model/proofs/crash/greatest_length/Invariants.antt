@@ -1,6 +1,5 @@
 use Rattle.std.proofs.Common.{◌≡◌, ◌≤◌, min, length, take}
-use Rattle.disk_model.specs.Surface.{surface_after}
-use Rattle.disk_model.specs.Undone.{calls_of}
+use Rattle.disk_model.proofs.Names.{surface_after, calls_of}
 use Rattle.disk_model.proofs.crash.greatest_length.Given as goal
 
 abbrev pub invariant-loop-write : goal.invariant-loop-write

@@ -1,6 +1,5 @@
 use Rattle.std.proofs.Common.{List, ℕ, length, get_or, refl, sym, ◌∙◌, ap, arith}
-use Rattle.disk_model.specs.Surface.{quiet_surface, surface_after}
-use Rattle.disk_model.specs.Undone.{calls_of, standing_open, synced_before}
+use Rattle.disk_model.proofs.Names.{quiet_surface, surface_after, calls_of, standing_open, synced_before}
 use Rattle.disk_model.proofs.Crashes.{crash_of, synced_kept}
 use Rattle.disk_model.proofs.Surfaces.{images_of_other_content}
 use Rattle.disk_model.proofs.crash.lose_power.Goals as goal

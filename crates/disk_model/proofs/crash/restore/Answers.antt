@@ -1,6 +1,5 @@
 use Rattle.std.proofs.Common.{◌≡◌, ◌++◌, length, take, drop, ◌∙◌, ap, arith}
-use Rattle.std.proofs.lemmas.Grind.{common_steps}
-use Rattle.disk_model.specs.Undone.{before_writes}
+use Rattle.disk_model.proofs.Names.{common_steps, before_writes}
 use Rattle.disk_model.proofs.crash.restore.Goals as goal
 
 pub returns-clause-synced : goal.returns-clause-synced

@@ -1,5 +1,5 @@
 use Rattle.std.proofs.Common.{◌≡◌, ℕ, ◌<◌, ◌≤◌, Some, length, slice_index}
-use Rattle.px_base.specs.Octets.{IsOctets}
+use Rattle.disk_model.proofs.Names.{IsOctets}
 use Rattle.disk_model.proofs.crash.tear.Given as goal
 
 abbrev pub invariant-loop-place : goal.invariant-loop-place

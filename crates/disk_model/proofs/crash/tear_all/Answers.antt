@@ -1,10 +1,5 @@
 use Rattle.std.proofs.Common.{◌≡◌, ◌-◌, ◌++◌, List, ℕ, false, length, get_or, take, drop, replicate, refl, sym, ◌∙◌, ap, subst, arith, rules}
-use Rattle.std.proofs.lemmas.Grind.{common_steps}
-use Rattle.std.proofs.lemmas.List.{take_all}
-use Rattle.px_base.specs.Octets.{IsOctets}
-use Rattle.disk_model.specs.Surface.{Surface, quiet_surface, surface_after, with_range}
-use Rattle.disk_model.specs.Undone.{before_writes, calls_of, synced_before}
-use Rattle.disk_model.specs.declared.open_write.OpenWrite.{OpenWrite}
+use Rattle.disk_model.proofs.Names.{common_steps, take_all, IsOctets, Surface, quiet_surface, surface_after, with_range, before_writes, calls_of, synced_before, OpenWrite}
 use Rattle.disk_model.proofs.BeforeWrites.{filled_behind, greatest_same, leaves_open, length-synced_before, write_next}
 use Rattle.disk_model.proofs.Crashes.{IsTorn, synced_kept, tears_same, with_range_torn}
 use Rattle.disk_model.proofs.crash.tear_all.Goals as goal

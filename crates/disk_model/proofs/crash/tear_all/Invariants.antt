@@ -1,8 +1,6 @@
 use Rattle.std.proofs.Common.{◌≡◌, length, take}
-use Rattle.px_base.specs.Octets.{IsOctets}
+use Rattle.disk_model.proofs.Names.{IsOctets, surface_after, calls_of, synced_before}
 use Rattle.disk_model.proofs.Crashes.{IsTorn}
-use Rattle.disk_model.specs.Surface.{surface_after}
-use Rattle.disk_model.specs.Undone.{calls_of, synced_before}
 use Rattle.disk_model.proofs.crash.tear_all.Given as goal
 
 abbrev pub invariant-loop-write : goal.invariant-loop-write

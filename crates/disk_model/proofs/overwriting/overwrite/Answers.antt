@@ -1,6 +1,5 @@
 use Rattle.std.proofs.Common.{◌≡◌, ◌+◌, ◌++◌, List, ℕ, length, take, drop, ◌∙◌, ap, arith}
-use Rattle.std.proofs.lemmas.Grind.{common_steps}
-use Rattle.disk_model.specs.Surface.{write_over}
+use Rattle.disk_model.proofs.Names.{common_steps, write_over}
 use Rattle.disk_model.proofs.Writes.{padded_write}
 use Rattle.disk_model.proofs.overwriting.overwrite.Goals as goal
 

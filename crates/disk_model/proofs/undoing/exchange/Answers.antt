@@ -1,5 +1,5 @@
 use Rattle.std.proofs.Common.{◌+◌, ◌-◌, arith}
-use Rattle.std.proofs.lemmas.Grind.{common_steps}
+use Rattle.disk_model.proofs.Names.{common_steps}
 use Rattle.disk_model.proofs.BeforeWrites.{exchanged}
 use Rattle.disk_model.proofs.undoing.exchange.Goals as goal
 

@@ -1,7 +1,5 @@
 use Rattle.std.proofs.Common.{◌≡◌, ◌-◌, ◌≤◌, ℕ, take, ◌∙◌, ap, arith}
-use Rattle.std.proofs.lemmas.Grind.{common_steps}
-use Rattle.std.proofs.lemmas.List.{places}
-use Rattle.disk_model.specs.Undone.{before_writes}
+use Rattle.disk_model.proofs.Names.{common_steps, places, before_writes}
 use Rattle.disk_model.proofs.BeforeWrites.{undo_next}
 use Rattle.disk_model.proofs.undoing.undo.Goals as goal
 use borrow.Rule.Slice.PartMut.{put_mid, take_put}

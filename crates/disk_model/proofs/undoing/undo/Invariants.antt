@@ -1,5 +1,5 @@
 use Rattle.std.proofs.Common.{◌≡◌, ◌≤◌, length, take}
-use Rattle.disk_model.specs.Undone.{before_writes}
+use Rattle.disk_model.proofs.Names.{before_writes}
 use Rattle.disk_model.proofs.undoing.undo.Given as goal
 
 abbrev pub invariant-loop-i : goal.invariant-loop-i

@@ -1,7 +1,5 @@
 use Rattle.std.proofs.Common.{Option, sym, subst}
-use Rattle.std.specs.Prelude.{IfSome}
-use Rattle.pfh_items.specs.Layout.{HeaderText, HeaderValue}
-use Rattle.pfh_writer.specs.Short.{HasEachOnce}
+use Rattle.file_entries.proofs.Names.{IfSome, HeaderText, HeaderValue, HasEachOnce}
 use Rattle.file_entries.proofs.HeadersLemmas.{header-there, items-header}
 use Rattle.file_entries.proofs.header.header_in.Goals as goal
 use Rattle.file_entries.proofs.header.header_in.Goals.{After-unwrap}

@@ -1,5 +1,5 @@
 use Rattle.std.proofs.Common.{◌≡◌, length}
-use Rattle.pfh_items.specs.Faults.{is_one_of_len, items_with}
+use Rattle.file_store.proofs.Names.{is_one_of_len, items_with}
 use Rattle.file_store.proofs.HeaderLemmas.{once_still}
 use Rattle.file_store.proofs.header.stands_once.Given as goal
 

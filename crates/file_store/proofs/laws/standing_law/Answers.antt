@@ -1,4 +1,4 @@
-use Rattle.block_entries.proofs.Offered.{placed_stands, stands_placed}
+use Rattle.file_store.proofs.Names.{placed_stands, stands_placed}
 use Rattle.file_store.proofs.laws.standing_law.Goals as goal
 
 pub returns : goal.returns

@@ -1,6 +1,5 @@
 use Rattle.std.proofs.Common.{sym, arith}
-use Rattle.file_journal.specs.Layout.{blocks_on}
-use Rattle.file_store.specs.State.{StoreState, state_from}
+use Rattle.file_store.proofs.Names.{blocks_on, StoreState, state_from}
 use Rattle.file_store.proofs.OnLemmas.{known_told, on-seals, told_known}
 use Rattle.file_store.proofs.ReadLemmas.{fills-same, sealed-given, sealed-length, sealed-there, then-ok}
 use Rattle.file_store.proofs.reading.read_file.Goals as goal

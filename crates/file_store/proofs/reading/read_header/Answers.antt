@@ -1,11 +1,5 @@
 use Rattle.std.proofs.Common.{◌≡◌, ◌≤◌, List, ℕ, length, Option, sym, ap, subst, arith, rules, length-append}
-use Rattle.std.specs.Prelude.{IsSomeAnd}
-use Rattle.block_entries.specs.Placed.{Placed, placed_of}
-use Rattle.block_entries.specs.Sealed.{octets_given}
-use Rattle.block_entries.proofs.Offered.{given_length}
-use Rattle.file_entries.specs.Headers.{IsHeaderOf, IsWholeHeader, body_octets}
-use Rattle.file_journal.specs.Layout.{blocks_on}
-use Rattle.file_store.specs.State.{StoreState, placed_in, state_from}
+use Rattle.file_store.proofs.Names.{IsSomeAnd, Placed, placed_of, octets_given, given_length, IsHeaderOf, IsWholeHeader, body_octets, blocks_on, StoreState, placed_in, state_from}
 use Rattle.file_store.proofs.OnLemmas.{known_told, on-seals, told_known}
 use Rattle.file_store.proofs.ReadLemmas.{fits-inside, sealed-given, sealed-there}
 use Rattle.file_store.proofs.reading.read_header.Goals as goal

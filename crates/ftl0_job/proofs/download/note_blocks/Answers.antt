@@ -1,11 +1,6 @@
 use Rattle.std.proofs.Common.{inl, refl, ◌≡◌, ℕ, ◌+◌, ◌-◌, ◌*◌, ◌/◌, ◌<◌, ◌++◌, List, drop, length, take, rules, sym, ap, ◌∙◌, subst, arith, length-append, length-drop, drop-drop}
-use Rattle.std.specs.Prelude.{⊤, Result, Err}
 use Rattle.arrayvec.specs.declared.array_vec.ArrayVec.{ArrayVec}
-use Rattle.client_notes.specs.Several.{DoesSeveral}
-use Rattle.client_notes.proofs.Offered.{Several-ready}
-use Rattle.disk_model.specs.declared.halt.Halt.{Halt}
-use Rattle.ftl0_job.specs.Download.{gots}
-use Rattle.ftl0_job.specs.Noting.{HasNoted}
+use Rattle.ftl0_job.proofs.Names.{⊤, Result, Err, DoesSeveral, Several-ready, Halt, gots, HasNoted}
 use Rattle.ftl0_job.proofs.BlockLemmas.{block-allowed, gots-allowed, more-noted, one-stopped}
 use Rattle.ftl0_job.proofs.NotingLemmas.{noted-none}
 use Rattle.ftl0_job.proofs.download.note_blocks.Goals as goal

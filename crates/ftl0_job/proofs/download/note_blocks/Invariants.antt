@@ -1,6 +1,5 @@
 use Rattle.std.proofs.Common.{◌≡◌, ◌*◌, ◌<◌, ◌++◌, drop, length}
-use Rattle.client_notes.specs.Several.{DoesSeveral}
-use Rattle.ftl0_job.specs.Download.{gots}
+use Rattle.ftl0_job.proofs.Names.{DoesSeveral, gots}
 use Rattle.ftl0_job.proofs.download.note_blocks.Given as goal
 
 -- so many blocks are noted, and the octets that are left stand behind them

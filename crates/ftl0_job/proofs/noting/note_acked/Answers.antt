@@ -1,4 +1,4 @@
-use Rattle.client_notes.specs.Command.{acked}
+use Rattle.ftl0_job.proofs.Names.{acked}
 use Rattle.ftl0_job.proofs.NotingLemmas.{answers-at-once}
 use Rattle.ftl0_job.proofs.noting.note_acked.Goals as goal
 

@@ -1,4 +1,4 @@
-use Rattle.client_notes.specs.Command.{forgot}
+use Rattle.ftl0_job.proofs.Names.{forgot}
 use Rattle.ftl0_job.proofs.NotingLemmas.{answers-noted}
 use Rattle.ftl0_job.proofs.noting.note_forgot.Goals as goal
 

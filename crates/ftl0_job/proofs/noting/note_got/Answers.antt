@@ -1,4 +1,4 @@
-use Rattle.client_notes.specs.Command.{got}
+use Rattle.ftl0_job.proofs.Names.{got}
 use Rattle.ftl0_job.proofs.NotingLemmas.{noting-noted}
 use Rattle.ftl0_job.proofs.noting.note_got.Goals as goal
 

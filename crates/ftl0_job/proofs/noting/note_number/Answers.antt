@@ -1,4 +1,4 @@
-use Rattle.client_notes.specs.Command.{numbered}
+use Rattle.ftl0_job.proofs.Names.{numbered}
 use Rattle.ftl0_job.proofs.NotingLemmas.{answers-at-once}
 use Rattle.ftl0_job.proofs.noting.note_number.Goals as goal
 

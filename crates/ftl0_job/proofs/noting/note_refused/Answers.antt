@@ -1,8 +1,5 @@
-use Rattle.std.proofs.lemmas.Grind.{common_steps}
 use Rattle.std.proofs.Common.{rules, arith, ◌≡◌, sym, subst, List, ◌∷◌, []}
-use Rattle.client_notes.specs.Command.{NotesCommand, refused}
-use Rattle.ftl0_job.specs.Noting.{NotesAtOnce}
-use Rattle.ftl0_job.specs.Upload.{refusal_of}
+use Rattle.ftl0_job.proofs.Names.{common_steps, NotesCommand, refused, NotesAtOnce, refusal_of}
 use Rattle.ftl0_job.proofs.NotingLemmas.{noted-none, answers-at-once}
 use Rattle.ftl0_job.proofs.noting.note_refused.Goals as goal
 

@@ -1,10 +1,6 @@
 use Rattle.std.proofs.Common.{◌≡◌, ℕ, ◌+◌, get_or, drop, refl, rules, sym, ap, ◌∙◌, arith}
-use Rattle.std.specs.Str.{bytes_eq}
-use Rattle.pfh_items.specs.Layout.{end_item}
-use Rattle.pfh_items.specs.Table.{mandatory_items}
 use Rattle.pfh_items.specs.declared.table.Form.TheVariants.{Number}
-use Rattle.pfh_items.specs.declared.table.MandatoryItem.{MandatoryItem}
-use Rattle.ftl0_job.specs.Short.{are_items, item_len}
+use Rattle.ftl0_job.proofs.Names.{bytes_eq, end_item, mandatory_items, MandatoryItem, are_items, item_len}
 use Rattle.ftl0_job.proofs.ShortLemmas.{items-end, items-none, items-on, rest-is}
 use Rattle.ftl0_job.proofs.short.are_items.Goals as goal
 

@@ -1,6 +1,5 @@
 use Rattle.std.proofs.Common.{◌≡◌, drop}
-use Rattle.pfh_items.specs.Table.{mandatory_items}
-use Rattle.ftl0_job.specs.Short.{are_items as are_items_of}
+use Rattle.ftl0_job.proofs.Names.{mandatory_items, are_items as are_items_of}
 use Rattle.ftl0_job.proofs.short.are_items.Given as goal
 
 -- what is left is the items of the rules that are left

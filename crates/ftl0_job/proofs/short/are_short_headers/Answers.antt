@@ -1,7 +1,6 @@
 use Rattle.std.proofs.Common.{◌≡◌, ℕ, ◌+◌, ◌-◌, ◌/◌, ◌≤◌, length, take, drop, rules, sym, ap, ◌∙◌, arith, length-drop}
 use Rattle.std.specs.Prelude.{◌==◌}
-use Rattle.std.proofs.lemmas.List.{length-take-le}
-use Rattle.ftl0_job.specs.Short.{are_headers}
+use Rattle.ftl0_job.proofs.Names.{length-take-le, are_headers}
 use Rattle.ftl0_job.proofs.ShortLemmas.{header-there, headers-end, headers-none, headers-on, rest-is}
 use Rattle.ftl0_job.proofs.short.are_short_headers.Goals as goal
 

@@ -1,5 +1,5 @@
 use Rattle.std.proofs.Common.{◌≡◌, ◌+◌, ◌-◌, ◌*◌, length}
-use Rattle.ftl0_job.specs.Short.{are_headers}
+use Rattle.ftl0_job.proofs.Names.{are_headers}
 use Rattle.ftl0_job.proofs.short.are_short_headers.Given as goal
 
 -- what is left is the headers that are left, and it is shorter by those that were seen

@@ -1,6 +1,5 @@
 use Rattle.std.proofs.Common.{◌≡◌, ℕ, List, [], ◌++◌, length}
-use Rattle.ftl0_packets.specs.Pieces.{TakesAll}
-use Rattle.ftl0_packets.specs.Reading.{packets_of, rest_of, under_way}
+use Rattle.ftl0_packets.proofs.Names.{TakesAll, packets_of, rest_of, under_way}
 use Rattle.ftl0_packets.proofs.pieces.feed_piece.Given as goal
 
 -- whatever comes later, the packets so far and those that are left are those of the whole piece

@@ -1,11 +1,6 @@
 -- One more piece, and the whole run.
 use Rattle.std.proofs.Common.{◌≡◌, ◌+◌, ◌<◌, ℕ, List, [], ◌++◌, length, take, get_or, flat_map, refl, sym, ap, ◌∙◌, subst, arith, append_assoc}
-use Rattle.std.proofs.lemmas.List.{append-nil, flat_map_more, take_more, take_all}
-use Rattle.px_base.specs.Octets.{IsOctets}
-use Rattle.ftl0_packets.specs.Layout.{Item}
-use Rattle.ftl0_packets.specs.Pieces.{TakesAll}
-use Rattle.ftl0_packets.specs.Reading.{packets_of, rest_of, under_way}
-use Rattle.ftl0_packets.specs.Stream.{Stream}
+use Rattle.ftl0_packets.proofs.Names.{append-nil, flat_map_more, take_more, take_all, IsOctets, Item, TakesAll, packets_of, rest_of, under_way, Stream}
 use Rattle.ftl0_packets.proofs.OctetLemmas.{IsOctets-append}
 use Rattle.ftl0_packets.proofs.StreamLemmas.{stream_of}
 use Rattle.ftl0_packets.proofs.pieces.feed_pieces.Goals as goal

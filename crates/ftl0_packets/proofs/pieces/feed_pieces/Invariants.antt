@@ -1,7 +1,5 @@
 use Rattle.std.proofs.Common.{◌≡◌, ℕ, List, [], ◌++◌, take, flat_map}
-use Rattle.px_base.specs.Octets.{IsOctets}
-use Rattle.ftl0_packets.specs.Pieces.{TakesAll}
-use Rattle.ftl0_packets.specs.Reading.{packets_of, rest_of, under_way}
+use Rattle.ftl0_packets.proofs.Names.{IsOctets, TakesAll, packets_of, rest_of, under_way}
 use Rattle.ftl0_packets.proofs.pieces.feed_pieces.Given as goal
 
 -- whatever comes later, the packets so far and those that are left are those of the pieces so far

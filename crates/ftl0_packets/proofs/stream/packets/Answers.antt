@@ -1,9 +1,6 @@
 -- The packets so far and the first of what is left.
 use Rattle.std.proofs.Common.{List, [], ◌++◌, refl, subst}
-use Rattle.std.proofs.lemmas.List.{append-nil}
-use Rattle.ftl0_packets.specs.Layout.{Item}
-use Rattle.ftl0_packets.specs.Stream.{Stream}
-use Rattle.ftl0_packets.specs.Values.{items_of}
+use Rattle.ftl0_packets.proofs.Names.{append-nil, Item, Stream, items_of}
 use Rattle.ftl0_packets.proofs.stream.packets.Goals as goal
 
 pub returns : goal.returns

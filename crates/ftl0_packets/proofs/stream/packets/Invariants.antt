@@ -1,7 +1,5 @@
 use Rattle.std.proofs.Common.{ℕ, List, ◌++◌, length}
-use Rattle.ftl0_packets.specs.Layout.{Item}
-use Rattle.ftl0_packets.specs.Stream.{Stream}
-use Rattle.ftl0_packets.specs.Values.{items_of}
+use Rattle.ftl0_packets.proofs.Names.{Item, Stream, items_of}
 use Rattle.ftl0_packets.proofs.stream.packets.Given as goal
 
 -- whatever stream is left, the packets so far stand before it

@@ -1,8 +1,6 @@
 -- What is read is what the type and the information say.
 use Rattle.std.proofs.Common.{◌≡◌, rules, arith, sym, subst}
-use Rattle.ftl0_packets.specs.Reading.{is_malformed, malformed_in, read_item}
-use Rattle.ftl0_packets.specs.Layout.{Item, PacketText}
-use Rattle.ftl0_packets.specs.Values.{item_of}
+use Rattle.ftl0_packets.proofs.Names.{is_malformed, malformed_in, read_item, Item, PacketText, item_of}
 use Rattle.ftl0_packets.proofs.OctetLemmas.{octets_from}
 use Rattle.ftl0_packets.proofs.TextLemmas.{PacketText-whole}
 use Rattle.ftl0_packets.proofs.text.read_text.Goals as goal

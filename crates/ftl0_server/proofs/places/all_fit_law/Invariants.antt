@@ -1,8 +1,6 @@
 -- Those before fit.
 use Rattle.std.proofs.Common.{◌≡◌, ℕ, ◌<◌, Some}
-use Rattle.std.specs.Prelude.{slice_get}
-use Rattle.ftl0_server.specs.AtPlace.{PlaceFits}
-use Rattle.ftl0_server.specs.declared.place.Place.{Place}
+use Rattle.ftl0_server.proofs.Names.{slice_get, PlaceFits, Place}
 use Rattle.ftl0_server.proofs.places.all_fit_law.Given as goal
 
 abbrev pub invariant-loop-place : goal.invariant-loop-place

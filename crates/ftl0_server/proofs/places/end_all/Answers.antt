@@ -1,6 +1,6 @@
 -- Each place may be ended once those before it are.
 use Rattle.std.proofs.Common.{◌≡◌, length, drop, arith, rules}
-use Rattle.ftl0_server.specs.AtPlace.{MayAllEnd}
+use Rattle.ftl0_server.proofs.Names.{MayAllEnd}
 use Rattle.ftl0_server.proofs.EndLemmas.{end-here, end-later}
 use Rattle.ftl0_server.proofs.places.end_all.Goals as goal
 

@@ -1,10 +1,7 @@
 -- The first place that has a frame gives it out, or none has one.
-use Rattle.std.proofs.lemmas.Grind.{common_steps}
 use Rattle.std.proofs.Common.{◌≡◌, List, get_or, false, sym, subst, arith}
-use Rattle.std.proofs.lemmas.Option.{slice_get-get_or}
 use Rattle.std.proofs.lemmas.List.{take_all}
-use Rattle.ftl0_server.specs.declared.place.Place.{Place}
-use Rattle.ftl0_server.specs.ServerState.{AllPlaces, SendsAs, any_pending}
+use Rattle.ftl0_server.proofs.Names.{common_steps, slice_get-get_or, Place, AllPlaces, SendsAs, any_pending}
 use Rattle.ftl0_server.proofs.NextLemmas.{most-at, next-at, quiet-places, same-at-place, same_places}
 use Rattle.ftl0_server.proofs.places.next_of.Goals as goal
 

@@ -1,6 +1,6 @@
 -- None of the places before has anything pending.
 use Rattle.std.proofs.Common.{◌≡◌, take, false}
-use Rattle.ftl0_server.specs.ServerState.{any_pending}
+use Rattle.ftl0_server.proofs.Names.{any_pending}
 use Rattle.ftl0_server.proofs.places.next_of.Given as goal
 
 abbrev pub invariant-loop-i : goal.invariant-loop-i

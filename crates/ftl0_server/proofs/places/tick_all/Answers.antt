@@ -1,20 +1,9 @@
 -- A tick comes at one place more.
 use Rattle.std.proofs.Common.{◌≡◌, ℕ, suc, ◌+◌, ◌<◌, List, length, get_or, Some, sym, ◌∙◌, ap, subst, arith, add-one, rules}
-use Rattle.std.specs.Prelude.{slice_get}
-use Rattle.std.proofs.lemmas.Option.{slice_get-get_or}
-use Rattle.file_store.proofs.Offered.{in_parked}
-use Rattle.file_store.specs.EntriesKept.{KeepsComplete}
-use Rattle.file_store.specs.Position.{Position}
-use Rattle.file_store.specs.Store.{Store}
-use Rattle.file_store.specs.State.{store_in}
-use Rattle.ftl0_server.specs.AtPlace.{IsPlace}
-use Rattle.ftl0_server.specs.ServerState.{AllPlaces}
-use Rattle.ftl0_server.specs.Slots.{Slot, slot_ticking}
+use Rattle.ftl0_server.proofs.Names.{slice_get, slice_get-get_or, in_parked, KeepsComplete, Position, Store, store_in, IsPlace, AllPlaces, Slot, slot_ticking, CallSign, IsSettled}
 use Rattle.ftl0_server.proofs.AllPlaces.{all-get, all-length}
 use Rattle.ftl0_server.proofs.SettledLemmas.{settled-works}
 use Rattle.ftl0_server.proofs.TickLemmas.{all-works, may-tick, quiet-later, ticked, ticked-all, ticked-get, ticked-set}
-use Rattle.px_base.specs.CallSign.{CallSign}
-use Rattle.ftl0_server.specs.Kept.{IsSettled}
 use Rattle.ftl0_server.proofs.places.tick_all.Goals as goal
 
 pub tick-requires : goal.tick-requires

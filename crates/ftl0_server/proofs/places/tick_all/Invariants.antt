@@ -1,11 +1,6 @@
 -- A tick came at each place before.
 use Rattle.std.proofs.Common.{◌≡◌, ℕ, List, drop, false}
-use Rattle.px_base.specs.CallSign.{CallSign}
-use Rattle.ax25_link.specs.Window.{Window}
-use Rattle.ftl0_server.specs.AtPlace.{GivesUp, IsPlace}
-use Rattle.ftl0_server.specs.Kept.{IsSettled, IsWorking}
-use Rattle.ftl0_server.specs.ServerState.{AllPlaces, any_pending}
-use Rattle.ftl0_server.specs.Slots.{Slot}
+use Rattle.ftl0_server.proofs.Names.{CallSign, Window, GivesUp, IsPlace, IsSettled, IsWorking, AllPlaces, any_pending, Slot}
 use Rattle.ftl0_server.proofs.TickLemmas.{ticked}
 use Rattle.ftl0_server.proofs.places.tick_all.Given as goal
 

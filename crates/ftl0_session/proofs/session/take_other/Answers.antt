@@ -1,9 +1,6 @@
 -- A packet that isn't of uploading, or comes while something is done of downloading: its row of downloading, or error 1.
 use Rattle.std.proofs.Common.{◌≡◌, Bool, None}
-use Rattle.ftl0_packets.specs.Values.{item_of}
-use Rattle.file_store.specs.Store.{Store}
-use Rattle.ftl0_session.specs.SessionState.{session_of, state_in}
-use Rattle.ftl0_session.specs.Table.{upload_row}
+use Rattle.ftl0_session.proofs.Names.{item_of, Store, session_of, state_in, upload_row}
 use Rattle.ftl0_session.proofs.RowLemmas.{upload-other}
 use Rattle.ftl0_session.proofs.TakenLemmas.{may-still, taken-download, taken-error}
 use Rattle.ftl0_session.proofs.session.take_other.Goals as goal

@@ -1,8 +1,6 @@
 -- A packet of uploading, while nothing is done of downloading, and any other one.
 use Rattle.std.proofs.Common.{sym, subst}
-use Rattle.ftl0_packets.specs.Values.{item_of}
-use Rattle.ftl0_session.specs.Downloads.Table.{DownloadState}
-use Rattle.ftl0_session.specs.Taking.{TakenOver, lent}
+use Rattle.ftl0_session.proofs.Names.{item_of, DownloadState, TakenOver, lent}
 use Rattle.ftl0_session.proofs.session.take_packet.Goals as goal
 
 pub returns-then-is_ready-clause-taken : goal.returns-then-is_ready-clause-taken

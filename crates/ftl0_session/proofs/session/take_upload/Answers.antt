@@ -1,6 +1,5 @@
 -- A packet of uploading is answered by its row of it.
-use Rattle.ftl0_packets.specs.Values.{item_of}
-use Rattle.file_store.specs.State.{store_in}
+use Rattle.ftl0_session.proofs.Names.{item_of, store_in}
 use Rattle.ftl0_session.proofs.UploadLemmas.{taken-upload}
 use Rattle.ftl0_session.proofs.session.take_upload.Goals as goal
 

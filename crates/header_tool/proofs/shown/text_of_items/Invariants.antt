@@ -1,6 +1,5 @@
 use Rattle.std.proofs.Common.{◌≡◌, ◌++◌, length}
-use Rattle.pfh_items.specs.Layout.{AreItems}
-use Rattle.header_tool.specs.Lines.{item_lines}
+use Rattle.header_tool.proofs.Names.{AreItems, item_lines}
 use Rattle.header_tool.proofs.shown.text_of_items.Given as goal
 
 -- the lines so far, and those of the items that are left

@@ -1,6 +1,5 @@
 use Rattle.std.proofs.Common.{ap, ◌++◌, ◌∷◌, List, sym, ◌∙◌}
-use Rattle.kiss.specs.declared.whole.Part.{Part}
-use Rattle.kiss.specs.KissText.{fend, kiss_parts}
+use Rattle.kiss.proofs.Names.{Part, fend, kiss_parts}
 use Rattle.kiss.proofs.Steps.{escaped-end, spoilt-end, within-end, fend_again}
 use Rattle.kiss.proofs.reader.verdict.Goals as goal
 

@@ -1,5 +1,5 @@
 use Rattle.std.proofs.Common.{take}
-use Rattle.kiss.specs.KissText.{HasNoFend}
+use Rattle.kiss.proofs.Names.{HasNoFend}
 use Rattle.kiss.proofs.whole.at_fend.Given as goal
 
 abbrev pub invariant-loop-index : goal.invariant-loop-index

@@ -1,5 +1,5 @@
 use Rattle.std.proofs.Common.{◌≡◌, ℕ, List, [], ◌++◌, drop}
-use Rattle.kiss.specs.KissText.{kiss_parts}
+use Rattle.kiss.proofs.Names.{kiss_parts}
 use Rattle.kiss.proofs.whole.hear.Given as goal
 
 abbrev pub invariant-loop-octet : goal.invariant-loop-octet

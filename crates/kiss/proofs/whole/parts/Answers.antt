@@ -1,6 +1,5 @@
 use Rattle.std.proofs.Common.{sym, ap, ◌∙◌, ◌++◌, ◌∷◌, List, append-nil, rules}
-use Rattle.kiss.specs.declared.whole.Part.{Part}
-use Rattle.kiss.specs.KissText.{fend, kiss_parts}
+use Rattle.kiss.proofs.Names.{Part, fend, kiss_parts}
 use Rattle.kiss.proofs.Splitting.{no_part, no_part_after, kiss_parts-first}
 use Rattle.kiss.proofs.Steps.{piece_more, piece_empty}
 use Rattle.kiss.proofs.whole.parts.Goals as goal

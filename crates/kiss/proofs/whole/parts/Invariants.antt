@@ -1,5 +1,5 @@
 use Rattle.std.proofs.Common.{◌≡◌, ◌∷◌, ◌++◌, length}
-use Rattle.kiss.specs.KissText.{fend, kiss_parts}
+use Rattle.kiss.proofs.Names.{fend, kiss_parts}
 use Rattle.kiss.proofs.whole.parts.Given as goal
 
 abbrev pub invariant-loop-piece : goal.invariant-loop-piece

@@ -1,5 +1,5 @@
 use Rattle.std.proofs.Common.{refl, ◌∙◌, []}
-use Rattle.std.proofs.lemmas.List.{take_all}
+use Rattle.kiss.proofs.Names.{take_all}
 use Rattle.kiss.proofs.Splitting.{ends_with}
 use Rattle.kiss.proofs.whole.parts_of_pieces.Goals as goal
 

@@ -1,6 +1,5 @@
 use Rattle.std.proofs.Common.{◌≡◌, ℕ, List, [], ◌++◌, take}
-use Rattle.std.specs.List.{flat_map}
-use Rattle.kiss.specs.KissText.{kiss_parts}
+use Rattle.kiss.proofs.Names.{flat_map, kiss_parts}
 use Rattle.kiss.proofs.whole.parts_of_pieces.Given as goal
 
 abbrev pub invariant-loop-piece : goal.invariant-loop-piece

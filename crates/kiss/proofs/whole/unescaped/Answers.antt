@@ -1,5 +1,5 @@
 use Rattle.std.proofs.Common.{arith}
-use Rattle.std.proofs.lemmas.List.{take_rest}
+use Rattle.kiss.proofs.Names.{take_rest}
 use Rattle.kiss.proofs.Escapes.{read_more}
 use Rattle.kiss.proofs.whole.unescaped.Goals as goal
 

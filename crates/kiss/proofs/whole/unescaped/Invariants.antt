@@ -1,6 +1,5 @@
 use Rattle.std.proofs.Common.{◌≡◌, ◌++◌, ◌-◌, ◌≤◌, length, drop}
-use Rattle.std.specs.Option.{option_map}
-use Rattle.kiss.specs.KissText.{unescape}
+use Rattle.kiss.proofs.Names.{option_map, unescape}
 use Rattle.kiss.proofs.whole.unescaped.Given as goal
 
 abbrev pub invariant-loop-at : goal.invariant-loop-at

@@ -1,6 +1,6 @@
 use Rattle.std.proofs.Common.{◌≡◌, ◌+◌, ◌≤◌, ◌*◌, ◌∷◌, take}
 use Rattle.arrayvec.specs.ArrayVec.{array_vec_len}
-use Rattle.kiss.specs.KissText.{fend, data_on_port_0, escape}
+use Rattle.kiss.proofs.Names.{fend, data_on_port_0, escape}
 use Rattle.kiss.proofs.writer.write_frame.Given as goal
 
 abbrev pub invariant-loop-octet : goal.invariant-loop-octet

@@ -1,8 +1,6 @@
 -- The station's turns.
 use Rattle.std.proofs.Common.{[], None, subst, sym, ◌∙◌, ap}
-use Rattle.node.specs.Course.{at}
-use Rattle.node.specs.Events.{NodeEvents}
-use Rattle.node.specs.Turns.{TookTurns, lent}
+use Rattle.node.proofs.Names.{at, NodeEvents, TookTurns, lent}
 use Rattle.node.proofs.DriveLemmas.{owes-first, station-turns}
 use Rattle.node.proofs.driving.drive.Goals as goal
 

@@ -1,8 +1,6 @@
 -- A frame that isn't the station's own is passed over, and no other frame has its octets.
 use Rattle.std.proofs.Common.{refl, subst, sym}
-use Rattle.std.proofs.lemmas.Bool.{iff_false}
-use Rattle.ax25_frames.specs.FrameText.{FrameValue}
-use Rattle.node.specs.Events.{IsFor}
+use Rattle.node.proofs.Names.{iff_false, FrameValue, IsFor}
 use Rattle.node.proofs.station_reader.frame_for.Goals as goal
 
 pub returns-in_default-clause-found : goal.returns-in_default-clause-found

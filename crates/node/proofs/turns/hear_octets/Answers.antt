@@ -1,10 +1,6 @@
 -- The loop goes on behind what was taken.
 use Rattle.std.proofs.Common.{List, [], ◌++◌, Ok, Err, take, drop, refl, sym, subst}
-use Rattle.std.specs.List.{AllByRecursion}
-use Rattle.disk_model.proofs.Writes.{octets_from_fits}
-use Rattle.node.specs.Course.{at}
-use Rattle.node.specs.Inputs.{Input, IsInput, octets_at}
-use Rattle.node.specs.Turns.{Takes}
+use Rattle.node.proofs.Names.{AllByRecursion, octets_from_fits, at, Input, IsInput, octets_at, Takes}
 use Rattle.node.proofs.InputLemmas.{inputs-behind, octets-inputs, octets-parts, octets_at-append, split-more}
 use Rattle.node.proofs.SayingLemmas.{at_exit, takes-before, takes-none, takes-then}
 use Rattle.node.proofs.turns.hear_octets.Goals as goal

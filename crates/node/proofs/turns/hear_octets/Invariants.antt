@@ -1,8 +1,6 @@
 -- What was handed over so far, and that the party took it.
 use Rattle.std.proofs.Common.{◌≡◌, List, ℕ, ◌++◌, length, Ok}
-use Rattle.node.specs.Course.{at}
-use Rattle.node.specs.Inputs.{octets_at}
-use Rattle.node.specs.Turns.{Takes}
+use Rattle.node.proofs.Names.{at, octets_at, Takes}
 use Rattle.node.proofs.turns.hear_octets.Given as goal
 
 abbrev pub invariant-loop-piece : goal.invariant-loop-piece

@@ -1,9 +1,7 @@
 -- Saying what the party gives ends it.
 use Rattle.std.proofs.Common.{take, [], None, Some}
-use Rattle.node.specs.Course.{at}
-use Rattle.node.specs.Inputs.{octets_at}
-use Rattle.node.specs.Turns.{Takes, TakesPiece}
 use Rattle.node.specs.declared.stop.NodeStop.TheVariants as stop
+use Rattle.node.proofs.Names.{at, octets_at, Takes, TakesPiece}
 use Rattle.node.proofs.SayingLemmas.{at_exit, taken-unsaid}
 use Rattle.node.proofs.turns.hear_piece.Goals as goal
 

@@ -1,8 +1,6 @@
 -- Each text is put, and one that can't be ends it.
 use Rattle.std.proofs.Common.{List, ℕ, ◌++◌, subst}
-use Rattle.px_base.specs.Outside.{Gains, GainsPrefix}
-use Rattle.node.specs.Course.{at}
-use Rattle.node.specs.Turns.{SaysAll}
+use Rattle.node.proofs.Names.{Gains, GainsPrefix, at, SaysAll}
 use Rattle.node.proofs.SayingLemmas.{at_exit, says-failed, saying-more, saying-none}
 use Rattle.node.proofs.turns.put_all.Goals as goal
 

@@ -1,5 +1,5 @@
 -- What was said so far, and what the party owes still.
-use Rattle.node.specs.Course.{at}
+use Rattle.node.proofs.Names.{at}
 use Rattle.node.proofs.Invariants.{IsSaying}
 use Rattle.node.proofs.turns.put_all.Given as goal
 

@@ -1,9 +1,7 @@
 -- A turn's octets are handed over, and then it ticks; or one of the two stops it.
 use Rattle.std.proofs.Common.{take, Ok, Err}
 use Rattle.px_base.specs.declared.air.Turn.TheVariants as turn
-use Rattle.node.specs.Course.{at}
-use Rattle.node.specs.Inputs.{octets_at, tick_after, turn_inputs}
-use Rattle.node.specs.Turns.{TookTurn}
+use Rattle.node.proofs.Names.{at, octets_at, tick_after, turn_inputs, TookTurn}
 use Rattle.node.proofs.InputLemmas.{tick-inputs}
 use Rattle.node.proofs.SayingLemmas.{at_exit, takes-before, takes-then}
 use Rattle.node.proofs.TurnLemmas.{turn-closed, turn-failed, turn-stopped, turn-taken}

@@ -1,8 +1,7 @@
 -- The loop over turns.
 use Rattle.std.proofs.Common.{refl, sym, ◌∙◌, arith, [], None}
-use Rattle.node.specs.Course.{at}
-use Rattle.node.specs.Turns.{AreHandedOver, TookTurns, lent}
 use Rattle.node.specs.declared.stop.NodeStop.TheVariants as stop
+use Rattle.node.proofs.Names.{at, AreHandedOver, TookTurns, lent}
 use Rattle.node.proofs.SayingLemmas.{at_exit}
 use Rattle.node.proofs.TurnsLemmas.{turns-closed, turns-more, turns-over, turns-spent, turns-start, turns-stopped, turns-unsaid}
 use Rattle.node.proofs.turns.take_turns.Goals as goal

@@ -1,7 +1,6 @@
 -- What was heard and said so far, at which moments, in turns that are all open ones, and that the party took all of it.
 use Rattle.std.proofs.Common.{◌≡◌}
-use Rattle.std.specs.Prelude.{IsSome}
-use Rattle.node.specs.Turns.{lent}
+use Rattle.node.proofs.Names.{IsSome, lent}
 use Rattle.node.proofs.Invariants.{IsTurning}
 use Rattle.node.proofs.turns.take_turns.Given as goal
 

@@ -1,9 +1,7 @@
 -- Saying what the party gives ends it.
 use Rattle.std.proofs.Common.{List, [], ◌∷◌, None, subst}
-use Rattle.node.specs.Course.{at}
-use Rattle.node.specs.Inputs.{Input, tick, tick_after}
+use Rattle.node.proofs.Names.{at, Input, tick, tick_after, Takes}
 use Rattle.node.proofs.InputLemmas.{tick-there}
-use Rattle.node.specs.Turns.{Takes}
 use Rattle.node.specs.declared.stop.NodeStop.TheVariants as stop
 use Rattle.node.proofs.SayingLemmas.{at_exit, taken-unsaid}
 use Rattle.node.proofs.turns.tick.Goals as goal

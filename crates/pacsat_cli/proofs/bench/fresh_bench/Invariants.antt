@@ -1,8 +1,7 @@
 -- So many disks as were put on it, each of them fresh.
 use Rattle.std.proofs.Common.{◌≡◌, length}
-use Rattle.std.specs.List.{All}
-use Rattle.disk_model.specs.Cuts.{IsFresh, cuts_by}
 use Rattle.disk_model.specs.Fuse as it
+use Rattle.pacsat_cli.proofs.Names.{All, IsFresh, cuts_by}
 use Rattle.pacsat_cli.proofs.bench.fresh_bench.Given as goal
 
 abbrev pub invariant-loop : goal.invariant-loop

@@ -1,7 +1,5 @@
 use Rattle.std.proofs.Common.{Err, refl, subst}
-use Rattle.node.specs.Lent.{lent, seen}
-use Rattle.uploader.specs.declared.terms.ClientTerms.{ClientTerms}
-use Rattle.pacsat_cli.specs.Clients.{SendRan, outside}
+use Rattle.pacsat_cli.proofs.Names.{lent, seen, ClientTerms, SendRan, outside}
 use Rattle.pacsat_cli.proofs.clients.run_send.Goals as goal
 
 -- what a send that was refused came to, with the terms that were asked for

@@ -1,5 +1,5 @@
 -- A file was made and kept, or it would be too long.
-use Rattle.header_tool.specs.Made.{make_value}
+use Rattle.pacsat_cli.proofs.Names.{make_value}
 use Rattle.pacsat_cli.proofs.MakeEnds.{made-file, too_long-file}
 use Rattle.pacsat_cli.proofs.making.make_of.Goals as goal
 

@@ -1,5 +1,5 @@
 -- What was loaded is the content of BODY.
-use Rattle.header_tool.specs.Made.{make_value}
+use Rattle.pacsat_cli.proofs.Names.{make_value}
 use Rattle.pacsat_cli.proofs.MakeEnds.{ran, unloaded-made}
 use Rattle.pacsat_cli.proofs.making.run_make.Goals as goal
 

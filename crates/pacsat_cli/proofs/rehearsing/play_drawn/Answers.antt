@@ -1,7 +1,6 @@
 -- What was drawn was played to its end.
-use Rattle.disk_model.specs.Cuts.{cuts_by}
 use Rattle.air_rehearsal.specs.Generator.{DrivenBy}
-use Rattle.air_rehearsal.specs.Rehearsed.{CanTell}
+use Rattle.pacsat_cli.proofs.Names.{cuts_by, CanTell}
 use Rattle.pacsat_cli.proofs.RehearsalEnds.{report-shown}
 use Rattle.pacsat_cli.proofs.rehearsing.play_drawn.Goals as goal
 

@@ -1,5 +1,5 @@
 -- What was loaded is played, or nothing was loaded.
-use Rattle.disk_model.specs.Cuts.{cuts_by}
+use Rattle.pacsat_cli.proofs.Names.{cuts_by}
 use Rattle.pacsat_cli.proofs.RehearsalEnds.{content-no_shelf, unloaded-named}
 use Rattle.pacsat_cli.proofs.rehearsing.play_named.Goals as goal
 

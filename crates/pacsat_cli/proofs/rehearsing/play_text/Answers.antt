@@ -1,5 +1,5 @@
 -- The text is that of a schedule, which was played to its end.
-use Rattle.disk_model.specs.Cuts.{cuts_by}
+use Rattle.pacsat_cli.proofs.Names.{cuts_by}
 use Rattle.pacsat_cli.proofs.RehearsalEnds.{played-text}
 use Rattle.pacsat_cli.proofs.rehearsing.play_text.Goals as goal
 

@@ -1,10 +1,7 @@
 -- The session ran over the fresh disk.
 use Rattle.std.proofs.Common.{refl, ap, sym, ◌∙◌, subst}
-use Rattle.std.specs.Prelude.{Some}
-use Rattle.disk_model.specs.Calls.{DiskState, content_of}
-use Rattle.pacsat_cli.specs.declared.status.Status.{Status}
-use Rattle.pacsat_cli.specs.Sessions.{OverMemory}
-use Rattle.pacsat_cli.specs.Stops.{status_in_memory}
+use Rattle.disk_model.specs.Calls.{content_of}
+use Rattle.pacsat_cli.proofs.Names.{Some, DiskState, Status, OverMemory, status_in_memory}
 use Rattle.pacsat_cli.proofs.MemorySession.{over-memory}
 use Rattle.pacsat_cli.proofs.serving.run_in_memory.Goals as goal
 

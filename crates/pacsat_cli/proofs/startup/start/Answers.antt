@@ -1,5 +1,5 @@
 use Rattle.std.proofs.Common.{ap, sym, ◌∙◌}
-use Rattle.pacsat_cli.specs.Status.{number_of}
+use Rattle.pacsat_cli.proofs.Names.{number_of}
 use Rattle.pacsat_cli.proofs.Starting.{closed, ran, refused}
 use Rattle.pacsat_cli.proofs.startup.start.Goals as goal
 

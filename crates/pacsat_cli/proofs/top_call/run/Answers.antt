@@ -1,17 +1,7 @@
 -- Each task by what it did, and refused words by why they were.
 use Rattle.std.proofs.Common.{◌≡◌, ℕ, List, refl, ap, sym, arith, inl, inr, Err}
-use Rattle.command_words.specs.Asked.{AsksText}
-use Rattle.command_words.specs.Laws.{AsksServe, AsksSession}
-use Rattle.command_words.specs.Words.{AsksClient, AsksMake, AsksRehearse}
-use Rattle.command_words.specs.declared.command.FileCommand.{FileCommand}
 use Rattle.pacsat_cli.specs.declared.status.Status.TheVariants as status
-use Rattle.disk_model.specs.Cuts.{cuts_by}
-use Rattle.pacsat_cli.specs.Rehearsing.{PlayEnd, setting, seen_setting}
-use Rattle.pacsat_cli.specs.Status.{line_of}
-use Rattle.pacsat_cli.specs.Stops.{status_of_refusal}
-use Rattle.pacsat_cli.specs.Tasks.{AsksFile}
-use Rattle.node.specs.Lent.{lent, seen}
-use Rattle.pacsat_cli.specs.Clients.{outside}
+use Rattle.pacsat_cli.proofs.Names.{AsksText, AsksServe, AsksSession, AsksClient, AsksMake, AsksRehearse, FileCommand, cuts_by, PlayEnd, setting, seen_setting, line_of, status_of_refusal, AsksFile, lent, seen, outside}
 use Rattle.pacsat_cli.proofs.Acknowledged.{service-stands, session-stands}
 use Rattle.pacsat_cli.proofs.ExactCarried.{fetch-exactly, list-exactly}
 use Rattle.pacsat_cli.proofs.ExactSend.{send-exactly, send-refuses, send-starts}

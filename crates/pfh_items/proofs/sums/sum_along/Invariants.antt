@@ -1,5 +1,5 @@
 use Rattle.std.proofs.Common.{◌≡◌, take}
-use Rattle.px_base.specs.Numbers.{sum16}
+use Rattle.pfh_items.proofs.Names.{sum16}
 use Rattle.pfh_items.proofs.sums.sum_along.Given as goal
 
 -- the sum of the octets so far

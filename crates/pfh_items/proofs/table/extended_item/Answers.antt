@@ -1,8 +1,6 @@
 use Rattle.std.proofs.Common.{◌==◌, rules, tests}
-use Rattle.std.proofs.lemmas.Iterator.{YieldsList-from_slice}
-use Rattle.std.proofs.lemmas.Iterator.Search.{find_from_yields_List}
 use Rattle.pfh_items.specs.declared.table.ExtendedItem.{ExtendedItem}
-use Rattle.pfh_items.specs.Table.{extended_items}
+use Rattle.pfh_items.proofs.Names.{YieldsList-from_slice, find_from_yields_List, extended_items}
 use Rattle.pfh_items.proofs.table.extended_item.Goals as goal
 
 pub returns : goal.returns

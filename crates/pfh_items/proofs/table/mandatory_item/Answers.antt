@@ -1,8 +1,5 @@
 use Rattle.std.proofs.Common.{◌==◌, rules, tests}
-use Rattle.std.proofs.lemmas.Iterator.{YieldsList-from_slice}
-use Rattle.std.proofs.lemmas.Iterator.Search.{find_from_yields_List}
-use Rattle.pfh_items.specs.declared.table.MandatoryItem.{MandatoryItem}
-use Rattle.pfh_items.specs.Table.{mandatory_items}
+use Rattle.pfh_items.proofs.Names.{YieldsList-from_slice, find_from_yields_List, MandatoryItem, mandatory_items}
 use Rattle.pfh_items.proofs.table.mandatory_item.Goals as goal
 
 pub returns : goal.returns

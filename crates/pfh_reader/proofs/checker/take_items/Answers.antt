@@ -1,10 +1,6 @@
 -- One more item is taken, and then all are.
 use Rattle.std.proofs.Common.{List, [], ◌∷◌, ◌++◌, sym, ap, ◌∙◌, subst, append_assoc}
-use Rattle.std.proofs.lemmas.List.{append-nil}
-use Rattle.pfh_items.specs.Layout.{ItemValue}
-use Rattle.pfh_items.specs.Walk.{ItemList}
-use Rattle.pfh_items.specs.Values.{item_value}
-use Rattle.pfh_reader.specs.Claims.{IsClaims}
+use Rattle.pfh_reader.proofs.Names.{append-nil, ItemValue, ItemList, item_value, IsClaims}
 use Rattle.pfh_reader.proofs.checker.take_items.Goals as goal
 
 pub loop-item-init : goal.loop-item-init

@@ -1,7 +1,5 @@
 use Rattle.std.proofs.Common.{◌≡◌, List, ◌++◌, length}
-use Rattle.pfh_items.specs.Layout.{ItemValue}
-use Rattle.pfh_items.specs.Walk.{items_from}
-use Rattle.pfh_reader.specs.Feed.{KeepsClaims}
+use Rattle.pfh_reader.proofs.Names.{ItemValue, items_from, KeepsClaims}
 use Rattle.pfh_reader.proofs.checker.take_items.Given as goal
 
 -- those that were taken stand before those that are left

@@ -1,8 +1,6 @@
 -- What one octet more makes of a cut item.
 use Rattle.std.proofs.Common.{ℕ, ◌++◌, ◌∷◌, [], List, sym, ap, ◌∙◌, subst, arith, lit<}
-use Rattle.pfh_items.specs.declared.items.Stop.TheVariants.{Ran}
-use Rattle.pfh_items.specs.Walk.{items_from}
-use Rattle.pfh_reader.specs.Feed.{IsCutItem, KeepsClaims, TakesItems}
+use Rattle.pfh_reader.proofs.Names.{Ran, items_from, IsCutItem, KeepsClaims, TakesItems}
 use Rattle.pfh_reader.proofs.FeedLemmas.{IsCutItem-none, IsOctets-push, length-cut, octet_cut, octet_end, octet_ran}
 use Rattle.pfh_reader.proofs.checker.take_octet.Goals as goal
 

@@ -1,14 +1,7 @@
 -- One more place is noted, and then all are.
 use Rattle.std.proofs.Common.{◌≡◌, ◌+◌, ◌<◌, ◌≤◌, ℕ, zero, suc, List, [], ◌∷◌, refl, length, length-set, get_or, set, sym, ap, ◌∙◌, arith, inl, inr, get_or-set_other, get_or-set_same}
-use Rattle.std.proofs.lemmas.Bool.{cases_eq}
-use Rattle.pfh_items.specs.Layout.{ItemValue}
-use Rattle.pfh_reader.specs.Claims.{standing_with}
-use Rattle.pfh_items.specs.declared.table.MandatoryItem.{MandatoryItem}
 use Rattle.pfh_items.specs.declared.table.Form.TheVariants.{Number}
-use Rattle.pfh_items.specs.Table.{mandatory_items}
-use Rattle.pfh_items.specs.Values.{item_value}
-use Rattle.pfh_reader.specs.declared.claims.Standing.{Standing}
-use Rattle.pfh_reader.specs.declared.claims.Standing.TheVariants.{Missing}
+use Rattle.pfh_reader.proofs.Names.{cases_eq, ItemValue, standing_with, MandatoryItem, mandatory_items, item_value, Standing, Missing}
 use Rattle.pfh_reader.proofs.ClaimsLemmas.{noted-from}
 use Rattle.pfh_reader.proofs.claims.note_standing.Goals as goal
 

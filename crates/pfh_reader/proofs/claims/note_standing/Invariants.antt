@@ -1,9 +1,5 @@
 use Rattle.std.proofs.Common.{◌≡◌, ◌<◌, ◌≤◌, ℕ, length, get_or}
-use Rattle.pfh_items.specs.Table.{mandatory_items}
-use Rattle.pfh_items.specs.Values.{item_value}
-use Rattle.pfh_items.specs.declared.table.MandatoryItem.{MandatoryItem}
-use Rattle.pfh_reader.specs.declared.claims.Standing.TheVariants.{Missing}
-use Rattle.pfh_reader.specs.Claims.{standing_with}
+use Rattle.pfh_reader.proofs.Names.{mandatory_items, item_value, MandatoryItem, Missing, standing_with}
 use Rattle.pfh_reader.proofs.claims.note_standing.Given as goal
 
 -- what stands before this place is noted, and the rest as it was

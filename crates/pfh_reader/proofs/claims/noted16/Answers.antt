@@ -1,7 +1,5 @@
 use Rattle.std.proofs.Common.{length, sym, subst}
-use Rattle.std.proofs.lemmas.Bool.{ne_eqb}
-use Rattle.pfh_items.specs.Values.{item_value}
-use Rattle.pfh_reader.specs.Claims.{Says16}
+use Rattle.pfh_reader.proofs.Names.{ne_eqb, item_value, Says16}
 use Rattle.pfh_reader.proofs.ClaimsLemmas.{says16-other, says16-item, says16-long}
 use Rattle.pfh_reader.proofs.claims.noted16.Goals as goal
 

@@ -1,7 +1,5 @@
 use Rattle.std.proofs.Common.{length, sym, subst}
-use Rattle.std.proofs.lemmas.Bool.{ne_eqb}
-use Rattle.pfh_items.specs.Values.{item_value}
-use Rattle.pfh_reader.specs.Claims.{Says32}
+use Rattle.pfh_reader.proofs.Names.{ne_eqb, item_value, Says32}
 use Rattle.pfh_reader.proofs.ClaimsLemmas.{says32-other, says32-item, says32-long}
 use Rattle.pfh_reader.proofs.claims.noted32.Goals as goal
 

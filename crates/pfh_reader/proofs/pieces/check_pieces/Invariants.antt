@@ -1,6 +1,5 @@
 use Rattle.std.proofs.Common.{◌≡◌, length, take}
-use Rattle.pfh_reader.specs.Check.{joined}
-use Rattle.pfh_reader.specs.Feed.{HasFed, fed_len}
+use Rattle.pfh_reader.proofs.Names.{joined, HasFed, fed_len}
 use Rattle.pfh_reader.proofs.pieces.check_pieces.Given as goal
 
 -- the pieces so far were fed

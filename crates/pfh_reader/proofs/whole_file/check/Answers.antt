@@ -1,10 +1,7 @@
 -- The answer is the first fault of the file.
 use Rattle.std.proofs.Common.{sym, ap, ◌∙◌}
 use Rattle.std.specs.Prelude.{option_map}
-use Rattle.std.proofs.lemmas.Bool.{both_ways}
-use Rattle.pfh_items.specs.declared.fault.FileFault.TheVariants.{NoHeader, NoEndItem}
-use Rattle.pfh_items.specs.Faults.{begins_header, code_of}
-use Rattle.pfh_items.proofs.Offered.{begins_header-BeginsHeader, BeginsHeader-begins_header, first_fault-none, first_fault-text}
+use Rattle.pfh_reader.proofs.Names.{both_ways, NoHeader, NoEndItem, begins_header, code_of, begins_header-BeginsHeader, BeginsHeader-begins_header, first_fault-none, first_fault-text}
 use Rattle.pfh_reader.proofs.FaultLemmas.{code, faultless, first, first_fault-other, first_fault-parts}
 use Rattle.pfh_reader.proofs.whole_file.check.Goals as goal
 

@@ -1,6 +1,5 @@
 use Rattle.std.proofs.Common.{◌≡◌, List, ◌++◌, length}
-use Rattle.pfh_items.specs.Layout.{ItemValue}
-use Rattle.pfh_reader.specs.Claims.{IsClaims}
+use Rattle.pfh_reader.proofs.Names.{ItemValue, IsClaims}
 use Rattle.pfh_reader.proofs.whole_file.claims_of.Given as goal
 
 -- those that were taken stand before those that are left

@@ -1,8 +1,6 @@
 use Rattle.std.proofs.Common.{◌≡◌, ℕ, ◌+◌, ◌<◌, List, ◌++◌, length, take, get_or, slice_set, Vec, Global, sym, ap, ◌∙◌, subst}
-use Rattle.std.specs.List.{flat_map}
 use Rattle.std.specs.Vec.{with_items}
-use Rattle.std.proofs.lemmas.List.{with_items_is}
-use Rattle.pfh_writer.specs.Stamping.{HasStamped}
+use Rattle.pfh_writer.proofs.Names.{flat_map, with_items_is, HasStamped}
 use Rattle.pfh_writer.proofs.PieceLemmas.{fed_more, given_more, rest_more}
 use Rattle.pfh_writer.proofs.pieces.stamp_pieces.Goals as goal
 

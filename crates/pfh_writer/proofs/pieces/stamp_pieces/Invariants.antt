@@ -1,6 +1,5 @@
 use Rattle.std.proofs.Common.{◌≡◌, take, drop}
-use Rattle.std.specs.List.{flat_map}
-use Rattle.pfh_writer.specs.Stamping.{HasStamped}
+use Rattle.pfh_writer.proofs.Names.{flat_map, HasStamped}
 use Rattle.pfh_writer.proofs.pieces.stamp_pieces.Given as goal
 
 -- so many pieces were stamped, and the others are as they were

@@ -1,9 +1,4 @@
-use Rattle.pfh_items.specs.Faults.{StandsOnce}
-use Rattle.pfh_items.specs.Layout.{header_start}
-use Rattle.pfh_items.specs.declared.table.Form.TheVariants.{Number}
-use Rattle.pfh_items.specs.declared.table.MandatoryItem.{MandatoryItem}
-use Rattle.pfh_items.specs.Table.{mandatory_items}
-use Rattle.pfh_writer.specs.Short.{IsRule, short_item}
+use Rattle.pfh_writer.proofs.Names.{StandsOnce, header_start, Number, MandatoryItem, mandatory_items, IsRule, short_item}
 use Rattle.pfh_writer.proofs.ShortLemmas.{rule_now, text_more, are_more, room_more}
 use Rattle.pfh_writer.proofs.short.form_of.Goals as goal
 

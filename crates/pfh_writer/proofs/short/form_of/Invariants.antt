@@ -1,10 +1,5 @@
 use Rattle.std.proofs.Common.{◌≡◌, ◌+◌, ◌++◌, take, drop, map}
-use Rattle.std.specs.List.{AllByRecursion}
-use Rattle.arrayvec.specs.ArrayVec.{array_vec_len}
-use Rattle.pfh_items.specs.Faults.{StandsOnce}
-use Rattle.pfh_items.specs.Layout.{AreItems, header_start, items_text}
-use Rattle.pfh_items.specs.Table.{mandatory_items}
-use Rattle.pfh_writer.specs.Short.{IsRule, short_item}
+use Rattle.pfh_writer.proofs.Names.{AllByRecursion, array_vec_len, StandsOnce, AreItems, header_start, items_text, mandatory_items, IsRule, short_item}
 use Rattle.pfh_writer.proofs.ShortLemmas.{rules_len}
 use Rattle.pfh_writer.proofs.short.form_of.Given as goal
 

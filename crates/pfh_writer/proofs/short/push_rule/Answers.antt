@@ -1,5 +1,5 @@
 use Rattle.std.proofs.Common.{◌≡◌, ℕ, ◌+◌, length, Some, ap, ◌∙◌, arith, lit<}
-use Rattle.arrayvec.specs.ArrayVec.{array_vec_len}
+use Rattle.pfh_writer.proofs.Names.{array_vec_len}
 use Rattle.pfh_writer.proofs.ItemsLemmas.{field-once}
 use Rattle.pfh_writer.proofs.short.push_rule.Goals as goal
 

@@ -1,7 +1,6 @@
 -- The sum is put in its place.
 use Rattle.std.proofs.Common.{List, ℕ, ◌++◌, take, drop, sym, ap, ◌∙◌, subst}
-use Rattle.px_base.specs.Numbers.{sum16}
-use Rattle.pfh_items.specs.Layout.{HeaderText}
+use Rattle.pfh_writer.proofs.Names.{sum16, HeaderText}
 use Rattle.pfh_writer.proofs.ShortLemmas.{sum-put, with_sum}
 use Rattle.pfh_writer.proofs.short.short_form.Goals as goal
 

@@ -1,12 +1,6 @@
 use Rattle.std.proofs.Common.{◌≡◌, ℕ, ◌+◌, ◌%◌, ◌≤◌, List, ◌++◌, length, take, refl, sym, ap, ◌∙◌, subst, arith, length-append, length-drop}
-use Rattle.std.proofs.lemmas.List.{length-take-le}
-use Rattle.px_base.specs.CallSign.{CallSign, IsCall}
-use Rattle.pfh_items.specs.Stamp.{StampValue, stamped}
-use Rattle.pfh_items.specs.Walk.{item_len}
-use Rattle.pfh_items.proofs.Offered.{one_stamp}
-use Rattle.pfh_writer.specs.Filling.{FillsFront, StaysAtEnd, sum_place_after}
-use Rattle.pfh_writer.specs.Stamping.{stamp_of}
 use Rattle.pfh_writer.specs.declared.server.ServerItems.{ServerItems}
+use Rattle.pfh_writer.proofs.Names.{length-take-le, CallSign, IsCall, StampValue, stamped, item_len, one_stamp, FillsFront, StaysAtEnd, sum_place_after, stamp_of}
 use Rattle.pfh_writer.proofs.FillingLemmas.{Walked, walked_none, rest_whole, rest_within, walked_more, part_is, put_is, sum_within, stamped_is}
 use Rattle.pfh_writer.proofs.stamping.stamp.Goals as goal
 

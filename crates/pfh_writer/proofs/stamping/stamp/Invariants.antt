@@ -1,6 +1,6 @@
 use Rattle.std.proofs.Common.{◌-◌, length}
+use Rattle.pfh_writer.proofs.Names.{stamp_of}
 use Rattle.pfh_writer.proofs.FillingLemmas.{Walked}
-use Rattle.pfh_writer.specs.Stamping.{stamp_of}
 use Rattle.pfh_writer.proofs.stamping.stamp.Given as goal
 
 -- so far the items are filled in

@@ -1,9 +1,5 @@
 use Rattle.std.proofs.Common.{◌≡◌, List, ◌++◌, length, sym, ap, ◌∙◌, arith}
-use Rattle.px_base.specs.CallSign.{IsCall}
-use Rattle.pfh_items.specs.Layout.{ItemValue}
-use Rattle.pfh_items.specs.Walk.{ItemList}
-use Rattle.pfh_writer.specs.Given.{stamped_sum}
-use Rattle.pfh_writer.specs.Stamping.{stamp_of}
+use Rattle.pfh_writer.proofs.Names.{IsCall, ItemValue, ItemList, stamped_sum, stamp_of}
 use Rattle.pfh_writer.proofs.FilledLemmas.{number_lens}
 use Rattle.pfh_writer.proofs.SumLemmas.{renewed-stamped_sum, same_walk}
 use Rattle.pfh_writer.proofs.WholeLemmas.{header_is, walk_of_header}

@@ -1,7 +1,6 @@
 use Rattle.std.proofs.Common.{take, ap, arith, subst, sym}
-use Rattle.std.specs.Str.{IsAscii}
 use Rattle.std.proofs.lemmas.Str.{IsUtf8-from_ascii}
-use Rattle.std.proofs.lemmas.Grind.{common_steps}
+use Rattle.px_base.proofs.Names.{IsAscii, common_steps}
 use Rattle.px_base.proofs.Calls.{front_is_ascii, front_is_base}
 use Rattle.px_base.proofs.call.base_text.Goals as goal
 

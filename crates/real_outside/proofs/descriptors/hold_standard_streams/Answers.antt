@@ -1,8 +1,7 @@
 use Rattle.std.proofs.Common.{◌≡◌, ◌+◌, length, arith, true, false, Ok, Err, inr}
+use Rattle.real_outside.proofs.Names.{asks_as, asks_more, AreHeld, HoldsLowest}
 use Rattle.real_outside.proofs.Errors.{handed_on}
 use Rattle.real_outside.proofs.Held.{are_standard, length_more, opened_failed, opened_held, opened_last}
-use Rattle.px_base.proofs.Told.{asks_as, asks_more}
-use Rattle.real_outside.specs.Descriptors.{AreHeld, HoldsLowest}
 use Rattle.real_outside.proofs.descriptors.hold_standard_streams.Goals as goal
 
 pub returns-then-not-branch : goal.returns-then-not-branch

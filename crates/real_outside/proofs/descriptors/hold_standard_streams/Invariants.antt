@@ -1,7 +1,6 @@
 -- Each opening so far gave a descriptor of a standard stream, and is held.
 use Rattle.std.proofs.Common.{◌≡◌, length}
-use Rattle.px_base.specs.CallRecords.{Asks}
-use Rattle.real_outside.specs.Descriptors.{AreHeld}
+use Rattle.real_outside.proofs.Names.{Asks, AreHeld}
 use Rattle.real_outside.proofs.descriptors.hold_standard_streams.Given as goal
 
 abbrev pub invariant-loop : goal.invariant-loop

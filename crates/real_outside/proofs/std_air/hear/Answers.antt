@@ -1,6 +1,6 @@
 use Rattle.std.proofs.Common.{[], ◌∷◌, refl}
-use Rattle.real_outside.specs.StreamCalls.{octets_read}
 use Rattle.real_outside.specs.declared.stream.StreamCall.TheVariants as call
+use Rattle.real_outside.proofs.Names.{octets_read}
 use Rattle.real_outside.proofs.Heard.{turn_is}
 use Rattle.real_outside.proofs.std_air.hear.Goals as goal
 

@@ -1,9 +1,7 @@
 use Rattle.std.proofs.Common.{◌≡◌, ◌+◌, ◌≤◌, ◌<◌, List, [], ◌++◌, length, drop, false, Bool, None, Some, ℕ, refl, sym, subst, arith, length-drop, append-nil}
-use Rattle.std.specs.Prelude.{is_ok}
 use Rattle.std.proofs.KnownBytes.{Appends-trans}
-use Rattle.std.proofs.lemmas.List.{take_rest}
-use Rattle.real_outside.specs.StreamCalls.{Writes, WritesAll, WritesSome}
-use Rattle.px_base.proofs.Told.{asks_as, asks_then}
+use Rattle.real_outside.specs.StreamCalls.{WritesAll, WritesSome}
+use Rattle.real_outside.proofs.Names.{is_ok, take_rest, Writes, asks_as, asks_then}
 use Rattle.real_outside.proofs.Errors.{not_ok}
 use Rattle.real_outside.proofs.Written.{Leads, leads_end, leads_more, take_sum, write_none}
 use Rattle.real_outside.proofs.writing.write_all.Goals as goal

@@ -1,7 +1,7 @@
 -- What reached the stream took the octets before those that are left.
 use Rattle.std.proofs.Common.{◌-◌, ◌≤◌, length, take}
 use Rattle.std.specs.Io.KnownBytes.{Appends}
-use Rattle.px_base.specs.CallRecords.{Asks}
+use Rattle.real_outside.proofs.Names.{Asks}
 use Rattle.real_outside.proofs.Written.{Leads}
 use Rattle.real_outside.proofs.writing.write_all.Given as goal
 

@@ -1,6 +1,5 @@
 use Rattle.std.proofs.Common.{◌≡◌}
-use Rattle.std.specs.Ordering.{nat_cmp}
-use Rattle.selection.specs.Meaning.{number}
+use Rattle.selection.proofs.Names.{nat_cmp, number}
 use Rattle.selection.proofs.NumberLemmas.{compared}
 use Rattle.selection.proofs.meaning.compare_numbers.Given as goal
 

@@ -1,5 +1,5 @@
 use Rattle.std.proofs.Common.{arith}
-use Rattle.std.proofs.lemmas.Result.{err_from_is_err_and}
+use Rattle.selection.proofs.Names.{err_from_is_err_and}
 use Rattle.selection.proofs.StepLemmas.{counted-step, counted-fault, counted-many, counted-end}
 use Rattle.selection.proofs.operands.operands_left.Goals as goal
 

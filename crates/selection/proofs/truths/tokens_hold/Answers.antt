@@ -1,10 +1,5 @@
 use Rattle.std.proofs.Common.{◌≡◌, ℕ, ◌-◌, List, [], ◌∷◌, length, take, drop, Bool, Option, Some, Result, Ok, refl, sym, ap, subst, ◌∙◌}
-use Rattle.std.specs.Prelude.{IsSome, slice_get}
-use Rattle.selection.specs.declared.token.Token.{Token}
-use Rattle.selection.specs.declared.token.TokenFault.{TokenFault}
-use Rattle.selection.specs.Meaning.{holds}
-use Rattle.selection.specs.Reading.{token_in}
-use Rattle.selection.specs.Values.{ReadsAs, tree_of}
+use Rattle.selection.proofs.Names.{IsSome, slice_get, Token, TokenFault, holds, token_in, ReadsAs, tree_of}
 use Rattle.selection.proofs.TruthLemmas.{evaluated-start, evaluated-reads, evaluated-enough, evaluated-step, evaluated-end}
 use Rattle.selection.proofs.truths.tokens_hold.Goals as goal
 

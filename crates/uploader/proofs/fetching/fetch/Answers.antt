@@ -1,15 +1,7 @@
 -- The recovery is refused; or the download stops, or is fetched, and the file is kept.
 use Rattle.std.proofs.Common.{sym, inr, [], length, refl, ap, ◌∙◌, subst, ◌≡◌, rules}
-use Rattle.std.specs.Prelude.{Result, Err, ⊤}
-use Rattle.client_notes.proofs.Offered.{counts_none}
-use Rattle.client_notes.specs.Notes.{got_of}
-use Rattle.client_notes.specs.State.{NotesState}
-use Rattle.node.specs.Lent.{lent, seen}
-use Rattle.ftl0_client.specs.declared.outcome.Outcome.{Outcome}
-use Rattle.uploader.specs.declared.stop.SendStop.{SendStop}
 use Rattle.uploader.specs.declared.stop.SendStop.TheVariants as stop
-use Rattle.uploader.specs.Causes.{HasCauses}
-use Rattle.uploader.specs.Fetching.{KeepsBy, download_of, file_asked}
+use Rattle.uploader.proofs.Names.{Result, Err, ⊤, counts_none, got_of, NotesState, lent, seen, Outcome, SendStop, HasCauses, KeepsBy, download_of, file_asked}
 use Rattle.uploader.proofs.CarryLemmas.{carried, causes, causes-err, causes-late, download-goes, fetch-ends, is_carried, is_late, just-asked, late-by, never, recovered_exactly}
 use Rattle.uploader.proofs.StartLemmas.{refused_exactly}
 use Rattle.uploader.proofs.fetching.fetch.Goals as goal

@@ -1,12 +1,11 @@
 -- Hexadecimal digits are a text.
 use Rattle.std.proofs.Common.{◌≡◌, ◌<◌, List, [], ◌∷◌, rules, subst, sym}
-use Rattle.std.specs.Prelude.{ℕ}
-use Rattle.std.specs.List.{AllByRecursion}
 use Rattle.std.specs.Str.{IsAscii, IsUtf8}
 use Rattle.std.proofs.lemmas.Str.{IsUtf8-from_ascii}
 use Rattle.std.proofs.lemmas.Str.Ascii.{IsAscii-cons, IsAscii-nil}
 use Rattle.hex.specs.Hex.{encode_lower, lower_digits}
 use Rattle.hex.proofs.HexLemmas.{IsAscii-encode_with}
+use Rattle.uploader.proofs.Names.{ℕ, AllByRecursion}
 use Rattle.uploader.proofs.line.name_digits.Goals as goal
 
 -- octets below 128, each by itself

@@ -1,15 +1,8 @@
 -- The recovery is refused, or there was no memory for the tokens; or the list stops, or came whole and is shown.
 use Rattle.std.proofs.Common.{sym, inl, inr, ℕ, List, [], refl, ap, ◌∙◌, subst, ◌≡◌, rules}
-use Rattle.std.specs.Prelude.{Result, Ok, Err, ⊤}
-use Rattle.client_notes.proofs.Offered.{counts_none}
 use Rattle.client_notes.specs.StoreFault.TheVariants as fault
-use Rattle.node.specs.Lent.{lent, seen}
-use Rattle.ftl0_client.specs.ClientState.{listing_in}
-use Rattle.ftl0_client.specs.declared.outcome.Outcome.{Outcome}
-use Rattle.uploader.specs.declared.stop.SendStop.{SendStop}
 use Rattle.uploader.specs.declared.stop.SendStop.TheVariants as stop
-use Rattle.uploader.specs.Causes.{HasCauses}
-use Rattle.uploader.specs.Listing.{ShowsBy, directory_of, files_asked}
+use Rattle.uploader.proofs.Names.{Result, Ok, Err, ⊤, counts_none, lent, seen, listing_in, Outcome, SendStop, HasCauses, ShowsBy, directory_of, files_asked}
 use Rattle.uploader.proofs.CarryLemmas.{carried, causes, causes-err, causes-late, is_carried, is_late, just-asked, late-by, list-ends, never, recovered_exactly}
 use Rattle.uploader.proofs.StartLemmas.{refused_exactly, unmade_leaves}
 use Rattle.uploader.proofs.listing.list.Goals as goal

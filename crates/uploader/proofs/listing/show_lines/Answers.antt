@@ -1,8 +1,6 @@
 -- One line more is shown, or a front of one.
 use Rattle.std.proofs.Common.{◌≡◌, ℕ, ◌+◌, ◌-◌, ◌/◌, ◌≤◌, List, [], length, take, drop, sym, ap, ◌∙◌, subst, arith, length-drop}
-use Rattle.std.proofs.lemmas.List.{length-take-le, take_rest}
-use Rattle.px_base.specs.Outside.{Gains, GainsPrefix}
-use Rattle.uploader.specs.Lines.{file_line, first_lines, listing_lines, short_len}
+use Rattle.uploader.proofs.Names.{length-take-le, take_rest, Gains, GainsPrefix, file_line, first_lines, listing_lines, short_len}
 use Rattle.uploader.proofs.LineLemmas.{IsShowing, header-there, lines-end, lines-step, on_err, showing-end, showing-more, showing-stops}
 use Rattle.uploader.proofs.listing.show_lines.Goals as goal
 

@@ -1,6 +1,6 @@
 -- The lines of the headers so far were shown, and what is left is shorter by these.
 use Rattle.std.proofs.Common.{◌≡◌, ◌+◌, ◌-◌, ◌*◌, length}
-use Rattle.uploader.specs.Lines.{first_lines, listing_lines}
+use Rattle.uploader.proofs.Names.{first_lines, listing_lines}
 use Rattle.uploader.proofs.LineLemmas.{IsShowing}
 use Rattle.uploader.proofs.listing.show_lines.Given as goal
 

@@ -1,9 +1,6 @@
 -- The notes are recovered, or that is refused.
 use Rattle.std.proofs.Common.{refl, sym, subst}
-use Rattle.client_notes.proofs.Offered.{answers-err, recovers-as}
-use Rattle.ftl0_client.specs.ClientState.{ClientState, IsClient}
-use Rattle.uploader.specs.Carried.{client_from}
-use Rattle.uploader.specs.Ready.{RecoversClient}
+use Rattle.uploader.proofs.Names.{answers-err, recovers-as, ClientState, IsClient, client_from, RecoversClient}
 use Rattle.uploader.proofs.recovering.recover_client.Goals as goal
 
 pub returns-in-Ok-clause-recovers : goal.returns-in-Ok-clause-recovers

@@ -1,16 +1,10 @@
 -- The file isn't loaded, or the recovery is refused; or the task isn't started, or the file was acknowledged before; or it
 -- is uploaded.
 use Rattle.std.proofs.Common.{ℕ, refl, sym, ap, ◌∙◌, subst, ◌≡◌, rules}
-use Rattle.std.specs.Prelude.{Result, Ok, Err}
 use Rattle.std.proofs.lemmas.Result.{err_from_is_err_and}
-use Rattle.node.specs.Lent.{lent, seen}
 use Rattle.client_notes.specs.declared.answers.Begun.TheVariants as begun
-use Rattle.uploader.specs.declared.stop.SendStop.{SendStop}
 use Rattle.uploader.specs.declared.stop.SendStop.TheVariants as stop
-use Rattle.uploader.specs.declared.terms.Sent.{Sent}
-use Rattle.uploader.specs.Causes.{HasCauses}
-use Rattle.uploader.specs.Loading.{sum_of}
-use Rattle.uploader.specs.Stops.{stop_of_start}
+use Rattle.uploader.proofs.Names.{Result, Ok, Err, lent, seen, SendStop, Sent, HasCauses, sum_of, stop_of_start}
 use Rattle.uploader.proofs.CarryLemmas.{causes-still, ok-never}
 use Rattle.uploader.proofs.SendLemmas.{SendsAll, already-all, asked-is, does-first, does-going, fresh-task-for, going-task-for, made-upload, may-carry, refused-all, runs_still, started, unfit-never, upload-all}
 use Rattle.uploader.proofs.StartLemmas.{refused_exactly}

@@ -1,6 +1,6 @@
 -- The upload stops; or it comes to an outcome, which is that the file was acknowledged.
 use Rattle.std.proofs.Common.{sym, ◌∙◌}
-use Rattle.ftl0_client.specs.ClientState.{listing_in}
+use Rattle.uploader.proofs.Names.{listing_in}
 use Rattle.uploader.proofs.CarryLemmas.{acked-alone}
 use Rattle.uploader.proofs.sending.upload.Goals as goal
 

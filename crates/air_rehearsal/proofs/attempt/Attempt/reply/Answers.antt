@@ -1,8 +1,6 @@
 -- The frame that is read is sent, and if it is a UA the attempt is answered.
 use Rattle.std.proofs.Common.{◌≡◌, ◌||◌, ap, refl, ◌∙◌}
-use Rattle.std.proofs.lemmas.Result.{on_ok_weaker}
-use Rattle.ax25_frames.specs.FrameText.{FrameValue}
-use Rattle.air_rehearsal.specs.Lanes.{is_ua, sort_of}
+use Rattle.air_rehearsal.proofs.Names.{on_ok_weaker, FrameValue, is_ua, sort_of}
 use Rattle.air_rehearsal.proofs.AttemptLemmas.{replies}
 use Rattle.air_rehearsal.proofs.attempt.Attempt.reply.Goals as goal
 use Rattle.air_rehearsal.proofs.attempt.Attempt.reply.Goals.{then-self, else-self}

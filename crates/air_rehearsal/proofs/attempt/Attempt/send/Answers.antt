@@ -1,10 +1,7 @@
 -- The frame that is read is sent; a SABM begins an attempt.
 use Rattle.std.proofs.Common.{◌≡◌, ap, refl, subst, sym, ◌∙◌}
-use Rattle.std.proofs.lemmas.Result.{on_ok_weaker}
-use Rattle.ax25_frames.specs.FrameText.{FrameValue}
-use Rattle.ax25_link.specs.Rows.{is_call}
-use Rattle.air_rehearsal.specs.Lanes.{HasLanes, beginning, sort_of}
 use Rattle.air_rehearsal.specs.declared.attempt.Attempt.{Attempt}
+use Rattle.air_rehearsal.proofs.Names.{on_ok_weaker, FrameValue, is_call, HasLanes, beginning, sort_of}
 use Rattle.air_rehearsal.proofs.AttemptLemmas.{Begins, begins, goes-on, sends}
 use Rattle.air_rehearsal.proofs.attempt.Attempt.send.Goals as goal
 use Rattle.air_rehearsal.proofs.attempt.Attempt.send.Goals.{then-is_call, else-is_call}

@@ -1,14 +1,6 @@
 -- Each transmission is one more.
 use Rattle.std.proofs.Common.{IfSome, ◌≡◌, ◌+◌, ◌%◌, ◌==◌, ℕ, List, None, Option, refl, sym, ap, subst, arith, ◌∙◌}
-use Rattle.std.specs.Option.{option_map}
-use Rattle.disk_model.specs.Cuts.{cuts_by}
-use Rattle.air_schedule.specs.Events.{event_value}
-use Rattle.air_world.specs.Schedule.{Event, IsInRange}
-use Rattle.air_rehearsal.specs.Driving.{Driven, Drives, delivery_of, driven_by}
-use Rattle.air_rehearsal.specs.Generator.{Carries, Drawing, TriesIf, TriesTimes, between, drawn, fate_of, next_number, put_off}
-use Rattle.air_rehearsal.specs.Generator.{times_of}
-use Rattle.air_rehearsal.specs.Playing.{Bench, bench_of}
-use Rattle.air_rehearsal.specs.declared.generator.Fate.{Fate}
+use Rattle.air_rehearsal.proofs.Names.{option_map, cuts_by, event_value, Event, IsInRange, Driven, Drives, delivery_of, driven_by, Carries, Drawing, TriesIf, TriesTimes, between, drawn, fate_of, next_number, put_off, times_of, Bench, bench_of, Fate}
 use Rattle.air_rehearsal.proofs.DrawLemmas.{carries-more, delivery-fits, none-between, put-off, put-off-fits}
 use Rattle.air_rehearsal.proofs.DriveLemmas.{Owes, Then, drives_draws, drives_in, drives_then, owes_done, owes_more, owes_none, stops_then}
 use Rattle.air_rehearsal.proofs.HalfwayServer.{on_err_of}

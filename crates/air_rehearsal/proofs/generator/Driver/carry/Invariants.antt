@@ -1,12 +1,5 @@
 -- The transmissions that are left, behind the delivery that was put off, make up all.
-use Rattle.std.specs.Option.{option_map}
-use Rattle.std.specs.Prelude.{None, IfSome}
-use Rattle.disk_model.specs.Cuts.{cuts_by}
-use Rattle.air_schedule.specs.Events.{event_value}
-use Rattle.air_world.specs.Schedule.{IsInRange}
-use Rattle.air_rehearsal.specs.Driving.{Drives, driven_by}
-use Rattle.air_rehearsal.specs.Driving.{delivery_of}
-use Rattle.air_rehearsal.specs.Generator.{Carries, between}
+use Rattle.air_rehearsal.proofs.Names.{option_map, None, IfSome, cuts_by, event_value, IsInRange, Drives, driven_by, delivery_of, Carries, between}
 use Rattle.air_rehearsal.proofs.DriveLemmas.{Owes}
 use Rattle.air_rehearsal.proofs.generator.Driver.carry.Given as goal
 

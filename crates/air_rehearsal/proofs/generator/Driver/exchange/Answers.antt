@@ -1,10 +1,6 @@
 -- What each of the two stations sent.
 use Rattle.std.proofs.Common.{inl, inr, refl, arith}
-use Rattle.std.specs.Prelude.{[], None}
-use Rattle.std.proofs.lemmas.Result.{IfOk-weaker}
-use Rattle.disk_model.specs.Cuts.{cuts_by}
-use Rattle.air_world.specs.Schedule.{to_client}
-use Rattle.air_rehearsal.specs.Generator.{Answers, Carries, between}
+use Rattle.air_rehearsal.proofs.Names.{[], None, IfOk-weaker, cuts_by, to_client, Answers, Carries, between}
 use Rattle.air_rehearsal.proofs.DrawLemmas.{answers-carry, answers-tick, no-more, some-between}
 use Rattle.air_rehearsal.proofs.DriveLemmas.{drives_as, stops_then}
 use Rattle.air_rehearsal.proofs.ExchangeLemmas.{exchanged}

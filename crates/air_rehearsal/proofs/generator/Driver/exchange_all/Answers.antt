@@ -1,8 +1,6 @@
 -- Each exchange is one more.
 use Rattle.std.proofs.Common.{◌≡◌, ◌+◌, ◌-◌, ℕ, refl, sym, ap, subst, arith, ◌∙◌}
-use Rattle.disk_model.specs.Cuts.{cuts_by}
-use Rattle.air_rehearsal.specs.Generator.{Drawing, Exchange, Exchanges, IsClosed, none_looked, still_looked}
-use Rattle.air_rehearsal.specs.declared.generator.Looked.{Looked}
+use Rattle.air_rehearsal.proofs.Names.{cuts_by, Drawing, Exchange, Exchanges, IsClosed, none_looked, still_looked, Looked}
 use Rattle.air_rehearsal.proofs.DrawLemmas.{exchanges-closed, exchanges-more}
 use Rattle.air_rehearsal.proofs.DriveLemmas.{Owes, drives_in, drives_none, owes_all, owes_done, owes_more, owes_none, stops_then}
 use Rattle.air_rehearsal.proofs.HalfwayServer.{on_err_of}

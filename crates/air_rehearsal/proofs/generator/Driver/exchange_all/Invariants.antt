@@ -1,8 +1,6 @@
 -- The exchanges that are left make up all.
 use Rattle.std.specs.Prelude.{◌-◌}
-use Rattle.disk_model.specs.Cuts.{cuts_by}
-use Rattle.air_rehearsal.specs.Driving.{Drives, driven_by}
-use Rattle.air_rehearsal.specs.Generator.{Drawing, Exchanges, none_looked}
+use Rattle.air_rehearsal.proofs.Names.{cuts_by, Drives, driven_by, Drawing, Exchanges, none_looked}
 use Rattle.air_rehearsal.proofs.DriveLemmas.{Owes}
 use Rattle.air_rehearsal.proofs.generator.Driver.exchange_all.Given as goal
 

@@ -1,15 +1,7 @@
 -- The event comes where it may.
 use Rattle.std.proofs.Common.{◌≡◌, false, true, refl, sym, subst}
-use Rattle.std.specs.Prelude.{Option, IfSome}
-use Rattle.std.specs.Option.{option_map}
-use Rattle.std.proofs.lemmas.Result.{IfOk-weaker}
-use Rattle.disk_model.specs.Cuts.{cuts_by}
-use Rattle.air_schedule.specs.Events.{event_value}
 use Rattle.air_schedule.specs.declared.event.Event.{Event as StoredEvent}
-use Rattle.air_world.specs.Schedule.{IsInRange}
-use Rattle.air_rehearsal.specs.Driving.{Drives, driven_by}
-use Rattle.air_rehearsal.specs.Generator.{TriesIf}
-use Rattle.air_rehearsal.specs.Playing.{bench_of}
+use Rattle.air_rehearsal.proofs.Names.{Option, IfSome, option_map, IfOk-weaker, cuts_by, event_value, IsInRange, Drives, driven_by, TriesIf, bench_of}
 use Rattle.air_rehearsal.proofs.PlayParts.{on_ok_of}
 use Rattle.air_rehearsal.proofs.DriveLemmas.{drives_none, drives_refuses, played-drives, stops_first}
 use Rattle.air_rehearsal.proofs.HalfwayServer.{on_err}

@@ -1,9 +1,6 @@
 -- Each delivery is one more.
 use Rattle.std.proofs.Common.{◌≡◌, ℕ, ◌+◌, ◌-◌, refl, subst, sym, arith}
-use Rattle.disk_model.specs.Cuts.{cuts_by}
-use Rattle.air_world.specs.Schedule.{Event, IsInRange}
-use Rattle.air_rehearsal.specs.Driving.{delivery_of}
-use Rattle.air_rehearsal.specs.Generator.{Tries, TriesTimes}
+use Rattle.air_rehearsal.proofs.Names.{cuts_by, Event, IsInRange, delivery_of, Tries, TriesTimes}
 use Rattle.air_rehearsal.proofs.DrawLemmas.{delivery-fits, times-more}
 use Rattle.air_rehearsal.proofs.DriveLemmas.{Owes, drives_as, owes_done, owes_more, owes_none, stops_then}
 use Rattle.air_rehearsal.proofs.HalfwayServer.{on_err_of}

@@ -1,9 +1,6 @@
 -- The deliveries that are left make up all.
 use Rattle.std.specs.Prelude.{◌+◌, ◌-◌}
-use Rattle.disk_model.specs.Cuts.{cuts_by}
-use Rattle.air_rehearsal.specs.Driving.{Drives, driven_by}
-use Rattle.air_rehearsal.specs.Driving.{delivery_of}
-use Rattle.air_rehearsal.specs.Generator.{TriesTimes}
+use Rattle.air_rehearsal.proofs.Names.{cuts_by, Drives, driven_by, delivery_of, TriesTimes}
 use Rattle.air_rehearsal.proofs.DriveLemmas.{Owes}
 use Rattle.air_rehearsal.proofs.generator.Driver.repeat.Given as goal
 

@@ -1,9 +1,6 @@
 -- A turn of each client, one after another.
 use Rattle.std.proofs.Common.{refl}
-use Rattle.std.proofs.lemmas.Result.{IfOk-weaker}
-use Rattle.disk_model.specs.Cuts.{cuts_by}
-use Rattle.air_rehearsal.specs.Drawn.{rounds}
-use Rattle.air_rehearsal.specs.Generator.{Turn, Turns}
+use Rattle.air_rehearsal.proofs.Names.{IfOk-weaker, cuts_by, rounds, Turn, Turns}
 use Rattle.air_rehearsal.proofs.DriveLemmas.{Then, drives_as, drives_then, stops_then}
 use Rattle.air_rehearsal.proofs.HalfwayServer.{on_err, on_err_of}
 use Rattle.air_rehearsal.proofs.generator.Driver.round.Goals as goal

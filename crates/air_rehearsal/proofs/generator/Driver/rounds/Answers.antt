@@ -1,8 +1,6 @@
 -- Each round is one more.
 use Rattle.std.proofs.Common.{◌≡◌, ℕ, ◌+◌, ◌-◌, refl, subst, arith}
-use Rattle.disk_model.specs.Cuts.{cuts_by}
-use Rattle.air_rehearsal.specs.Drawn.{rounds}
-use Rattle.air_rehearsal.specs.Generator.{Turns}
+use Rattle.air_rehearsal.proofs.Names.{cuts_by, rounds, Turns}
 use Rattle.air_rehearsal.proofs.DrawLemmas.{rounds-more}
 use Rattle.air_rehearsal.proofs.DriveLemmas.{Owes, drives_as, owes_done, owes_more, owes_none, stops_then}
 use Rattle.air_rehearsal.proofs.HalfwayServer.{on_err_of}

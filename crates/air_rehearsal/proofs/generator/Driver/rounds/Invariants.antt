@@ -1,9 +1,6 @@
 -- The turns of the rounds that are left make up those of all.
 use Rattle.std.specs.Prelude.{◌-◌}
-use Rattle.disk_model.specs.Cuts.{cuts_by}
-use Rattle.air_rehearsal.specs.Drawn.{rounds}
-use Rattle.air_rehearsal.specs.Driving.{Drives, driven_by}
-use Rattle.air_rehearsal.specs.Generator.{Turns}
+use Rattle.air_rehearsal.proofs.Names.{cuts_by, rounds, Drives, driven_by, Turns}
 use Rattle.air_rehearsal.proofs.DriveLemmas.{Owes}
 use Rattle.air_rehearsal.proofs.generator.Driver.rounds.Given as goal
 

@@ -1,8 +1,5 @@
 -- One tick after the other.
-use Rattle.std.proofs.lemmas.Result.{IfOk-weaker}
-use Rattle.disk_model.specs.Cuts.{cuts_by}
-use Rattle.air_world.specs.Schedule.{tick_client, tick_server}
-use Rattle.air_rehearsal.specs.Generator.{Tries}
+use Rattle.air_rehearsal.proofs.Names.{IfOk-weaker, cuts_by, tick_client, tick_server, Tries}
 use Rattle.air_rehearsal.proofs.DriveLemmas.{drives_then, stops_then}
 use Rattle.air_rehearsal.proofs.HalfwayServer.{on_err}
 use Rattle.air_rehearsal.proofs.generator.Driver.tick.Goals as goal

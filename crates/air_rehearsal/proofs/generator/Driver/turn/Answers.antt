@@ -1,11 +1,6 @@
 -- What is asked, what is exchanged, and what ends the turn.
 use Rattle.std.proofs.Common.{ap, subst, sym}
-use Rattle.std.proofs.lemmas.Result.{IfOk-weaker}
-use Rattle.disk_model.specs.Cuts.{cuts_by}
-use Rattle.air_rehearsal.specs.Driving.{IsReadyBench, StopsDriving}
-use Rattle.air_rehearsal.specs.Generator.{Drawing, Exchanges, Takes, Turn, ending, none_looked, wish}
-use Rattle.air_rehearsal.specs.Playing.{bench_of}
-use Rattle.air_rehearsal.specs.declared.stations.Stations.{Stations}
+use Rattle.air_rehearsal.proofs.Names.{IfOk-weaker, cuts_by, IsReadyBench, StopsDriving, Drawing, Exchanges, Takes, Turn, ending, none_looked, wish, bench_of, Stations}
 use Rattle.air_rehearsal.proofs.DriveLemmas.{Then, drives_as, drives_takes, drives_then, stops_then}
 use Rattle.air_rehearsal.proofs.HalfwayServer.{on_err, on_err_of}
 use Rattle.air_rehearsal.proofs.generator.Driver.turn.Goals as goal

@@ -1,12 +1,7 @@
 -- What the client of the number is asked for.
 use Rattle.std.proofs.Common.{rules, ◌≡◌, ◌%◌, ℕ, Option, None, Some, refl, sym, ap, ◌∙◌}
-use Rattle.std.specs.Prelude.{min}
-use Rattle.std.specs.Option.{option_map, option_map_or}
-use Rattle.air_schedule.specs.Events.{event_value}
 use Rattle.air_attempt.specs.Party.{Party}
-use Rattle.air_world.specs.Schedule.{ask_upload}
-use Rattle.air_rehearsal.specs.Generator.{Draw, next_number, none_drawn, state_after, wish_of}
-use Rattle.air_rehearsal.specs.TakingPart.{Seat}
+use Rattle.air_rehearsal.proofs.Names.{min, option_map, option_map_or, event_value, ask_upload, Draw, next_number, none_drawn, state_after, wish_of, Seat}
 use Rattle.air_rehearsal.proofs.AllowedLemmas.{has-party}
 use Rattle.air_rehearsal.proofs.NumberedLemmas.{none-here}
 use Rattle.air_rehearsal.proofs.WishLemmas.{downloads, draws-none, draws-question, draws-resume, going-is, none-going}

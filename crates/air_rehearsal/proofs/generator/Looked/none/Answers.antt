@@ -1,5 +1,5 @@
 use Rattle.std.proofs.Common.{ℕ, ap}
-use Rattle.air_rehearsal.specs.declared.generator.Looked.{Looked}
+use Rattle.air_rehearsal.proofs.Names.{Looked}
 use Rattle.air_rehearsal.proofs.generator.Looked.none.Goals as goal
 
 pub returns : goal.returns

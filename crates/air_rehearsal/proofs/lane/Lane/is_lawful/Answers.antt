@@ -1,10 +1,9 @@
 -- By the sort of the frame at the place.
 use Rattle.std.proofs.Common.{refl, sym, ◌∙◌}
-use Rattle.std.proofs.lemmas.Bool.{not_from_false}
+use Rattle.air_rehearsal.proofs.Names.{not_from_false, window_of}
 use Rattle.air_rehearsal.proofs.LaneLemmas.{call-lawful, foremost-lawful, none-lawful, overtaken-lawful, plain-lawful}
 use Rattle.air_rehearsal.proofs.PairLemmas.{get-none, get-some}
 use Rattle.air_rehearsal.proofs.lane.Lane.is_lawful.Goals as goal
-use Rattle.ax25_link.specs.Window.{window_of}
 
 pub returns-in_default : goal.returns-in_default
 returns-in_default c list same =

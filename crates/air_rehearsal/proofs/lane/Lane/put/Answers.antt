@@ -1,9 +1,6 @@
 -- One frame more was sent, with these octets and this sort.
 use Rattle.std.proofs.Common.{[], ◌∷◌, ◌++◌, false, refl, subst, sym}
-use Rattle.ax25_frames.specs.FrameText.{FrameText}
-use Rattle.ax25_link.specs.Air.{fresh}
-use Rattle.air_rehearsal.specs.Lanes.{AreSentAs}
-use Rattle.air_rehearsal.specs.declared.lane.Sent.{Sent}
+use Rattle.air_rehearsal.proofs.Names.{FrameText, fresh, AreSentAs, Sent}
 use Rattle.air_rehearsal.proofs.LaneLemmas.{sent-more}
 use Rattle.air_rehearsal.proofs.lane.Lane.put.Goals as goal
 

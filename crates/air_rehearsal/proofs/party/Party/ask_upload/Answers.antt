@@ -1,6 +1,6 @@
 -- The task of the file is begun, and then its upload is asked.
 use Rattle.std.proofs.Common.{sym, subst, List, ℕ}
-use Rattle.air_rehearsal.specs.TakingPart.{AsksNext}
+use Rattle.air_rehearsal.proofs.Names.{AsksNext}
 use Rattle.air_rehearsal.proofs.PartLemmas.{ok_then}
 use Rattle.air_rehearsal.proofs.UploadLemmas.{begins_upload}
 use Rattle.air_rehearsal.proofs.party.Party.ask_upload.Goals as goal

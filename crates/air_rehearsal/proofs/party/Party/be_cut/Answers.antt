@@ -1,11 +1,6 @@
 -- What power left on the disk stands for the notes after the first of the commands, from which the client starts again.
 use Rattle.std.proofs.Common.{refl, ap, ◌∙◌, subst, inl, List, ℕ, None}
-use Rattle.disk_model.specs.Cuts.{cuts_by}
-use Rattle.file_journal.specs.Calls.{EachImage}
-use Rattle.client_notes.specs.Notes.{task_count}
-use Rattle.client_notes.specs.State.{NotesState, StandsFor}
-use Rattle.air_rehearsal.specs.PartCalls.{uploads_by}
-use Rattle.air_rehearsal.specs.declared.party.Party.{Party}
+use Rattle.air_rehearsal.proofs.Names.{cuts_by, EachImage, task_count, NotesState, StandsFor, uploads_by, Party}
 use Rattle.air_rehearsal.proofs.HalfwayCuts.{part_failed, part_restarted}
 use Rattle.air_rehearsal.proofs.CutLemmas.{be_cut}
 use Rattle.air_rehearsal.proofs.party.Party.be_cut.Goals as goal

@@ -1,8 +1,6 @@
 -- The client starts again from the notes that its disk stands for, which are its own.
 use Rattle.std.proofs.Common.{sym, ◌∙◌, subst}
-use Rattle.disk_model.specs.Cuts.{cuts_by}
-use Rattle.file_journal.specs.Calls.{EachImage}
-use Rattle.client_notes.specs.State.{NotesState, StandsFor}
+use Rattle.air_rehearsal.proofs.Names.{cuts_by, EachImage, NotesState, StandsFor}
 use Rattle.air_rehearsal.proofs.CutLemmas.{breaks_off}
 use Rattle.air_rehearsal.proofs.party.Party.break_off.Goals as goal
 

@@ -1,7 +1,6 @@
 -- Each part by its own call.
 use Rattle.std.proofs.Common.{subst}
-use Rattle.air_rehearsal.specs.TakingPart.{IsPart}
-use Rattle.air_rehearsal.specs.declared.part.Part.{Part}
+use Rattle.air_rehearsal.proofs.Names.{IsPart, Part}
 use Rattle.air_rehearsal.proofs.PartLemmas.{carries_same, ok_then}
 use Rattle.air_rehearsal.proofs.party.Party.do_part.Goals as goal
 

@@ -1,6 +1,6 @@
 -- The name has an octet.
 use Rattle.std.proofs.Common.{rules, arith}
-use Rattle.std.proofs.lemmas.Fmt.{decimal_nonempty}
+use Rattle.air_rehearsal.proofs.Names.{decimal_nonempty}
 use Rattle.air_rehearsal.proofs.party.Party.go_on.Goals as goal
 
 pub start_task-requires-clause-some : goal.start_task-requires-clause-some

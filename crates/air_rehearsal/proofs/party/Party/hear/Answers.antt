@@ -1,15 +1,7 @@
 -- The frame at this place is read, is for this client, and is heard.
 use Rattle.std.proofs.Common.{refl, subst, List, ℕ, true, Ok, Err}
-use Rattle.ax25_frames.specs.FrameText.{FrameValue}
-use Rattle.ax25_link.specs.Air.{IsAt, Transmission, delivering}
-use Rattle.file_journal.specs.Calls.{EachImage}
-use Rattle.client_notes.specs.State.{NotesState, StandsFor}
 use Rattle.ftl0_client.specs.Calls.{Hears}
-use Rattle.air_world.specs.Events.{ClientPart, DeliversToClient}
-use Rattle.air_rehearsal.specs.Lanes.{IsLane}
-use Rattle.air_rehearsal.specs.TakingPart.{IsSeat, Seat}
-use Rattle.air_rehearsal.specs.declared.lane.Lane.{Lane}
-use Rattle.air_rehearsal.specs.declared.party.Party.{Party}
+use Rattle.air_rehearsal.proofs.Names.{FrameValue, IsAt, Transmission, delivering, EachImage, NotesState, StandsFor, ClientPart, DeliversToClient, IsLane, IsSeat, Seat, Lane, Party}
 use Rattle.air_rehearsal.proofs.HeardLemmas.{delivered_at, heard_begins, heard_touches, is_for, lane_was, lanes_now}
 use Rattle.air_rehearsal.proofs.party.Party.hear.Goals as goal
 

@@ -1,10 +1,6 @@
 -- From the last task on, the first that was acknowledged is the last one.
 use Rattle.std.proofs.Common.{◌≡◌, ℕ, ◌-◌, ap, subst, ◌∙◌, arith}
-use Rattle.client_notes.specs.Answers.{noted_at}
-use Rattle.client_notes.specs.Notes.{Lists, task_count}
-use Rattle.client_notes.specs.State.{NotesState}
-use Rattle.air_rehearsal.specs.Drawn.{is_acked}
-use Rattle.air_rehearsal.specs.NotedTasks.{number_if_acked}
+use Rattle.air_rehearsal.proofs.Names.{noted_at, Lists, task_count, NotesState, is_acked, number_if_acked}
 use Rattle.air_rehearsal.proofs.LastTasks.{NonePasses, acked-found, acked-more, acked-some, none-acked}
 use Rattle.air_rehearsal.proofs.party.Party.last_acked.Goals as goal
 

@@ -1,5 +1,5 @@
 -- None of the tasks behind is one.
-use Rattle.air_rehearsal.specs.Drawn.{is_acked}
+use Rattle.air_rehearsal.proofs.Names.{is_acked}
 use Rattle.air_rehearsal.proofs.LastTasks.{NonePasses}
 use Rattle.air_rehearsal.proofs.party.Party.last_acked.Given as goal
 

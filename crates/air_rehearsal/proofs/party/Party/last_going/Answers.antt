@@ -1,11 +1,6 @@
 -- From the last task on, the first that is unfinished is the last one.
 use Rattle.std.proofs.Common.{◌≡◌, ℕ, ◌-◌, Some, ap, sym, subst, ◌∙◌, arith}
-use Rattle.client_notes.specs.Answers.{noted_at}
-use Rattle.client_notes.specs.Command.{is_going}
-use Rattle.client_notes.specs.Notes.{Lists, task_count}
-use Rattle.client_notes.specs.State.{NotesState}
-use Rattle.air_rehearsal.specs.NotedTasks.{number_if_going}
-use Rattle.air_rehearsal.specs.PartyCalls.{IsLastGoing}
+use Rattle.air_rehearsal.proofs.Names.{noted_at, is_going, Lists, task_count, NotesState, number_if_going, IsLastGoing}
 use Rattle.air_rehearsal.proofs.LastTasks.{NonePasses, going-found, going-more, none-going}
 use Rattle.air_rehearsal.proofs.party.Party.last_going.Goals as goal
 

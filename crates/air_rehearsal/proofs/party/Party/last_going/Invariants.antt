@@ -1,5 +1,5 @@
 -- None of the tasks behind is one.
-use Rattle.client_notes.specs.Command.{is_going}
+use Rattle.air_rehearsal.proofs.Names.{is_going}
 use Rattle.air_rehearsal.proofs.LastTasks.{NonePasses}
 use Rattle.air_rehearsal.proofs.party.Party.last_going.Given as goal
 

@@ -1,9 +1,6 @@
 -- The client starts from the notes that its disk stands for: of a disk without octets from none.
 use Rattle.std.proofs.Common.{refl, subst}
-use Rattle.ax25_link.specs.Window.{window_of}
-use Rattle.client_notes.specs.Notes.{Lists}
-use Rattle.ftl0_client.specs.Client.{new_client}
-use Rattle.ftl0_client.specs.ClientState.{IsClient}
+use Rattle.air_rehearsal.proofs.Names.{window_of, Lists, new_client, IsClient}
 use Rattle.air_rehearsal.proofs.RestartLemmas.{first_notes, starts_again}
 use Rattle.air_rehearsal.proofs.party.Party.open.Goals as goal
 

@@ -1,7 +1,6 @@
 -- What the client has to send is sent, frame after frame.
 use Rattle.std.proofs.Common.{refl, sym, ap, subst, List}
-use Rattle.ax25_frames.specs.FrameText.{FrameText}
-use Rattle.air_rehearsal.specs.declared.party.Party.{Party}
+use Rattle.air_rehearsal.proofs.Names.{FrameText, Party}
 use Rattle.air_rehearsal.proofs.SayLemmas.{handed_out, none_left, says_all, says_more, says_none, theirs_still}
 use Rattle.air_rehearsal.proofs.party.Party.say.Goals as goal
 

@@ -1,10 +1,6 @@
 -- The client still may hear a frame, and has fewer frames to give out; so many were sent so far.
 use Rattle.std.proofs.Common.{◌≡◌}
-use Rattle.ftl0_client.specs.Client.{Client}
-use Rattle.ftl0_client.specs.ClientState.{IsClient, client_most}
-use Rattle.air_rehearsal.specs.Lanes.{HasLanes, Lanes}
-use Rattle.air_rehearsal.specs.PartCalls.{KeepsOthers}
-use Rattle.air_rehearsal.specs.Ready.{IsTheirs}
+use Rattle.air_rehearsal.proofs.Names.{Client, IsClient, client_most, HasLanes, Lanes, KeepsOthers, IsTheirs}
 use Rattle.air_rehearsal.proofs.SayLemmas.{SaysSoFar}
 use Rattle.air_rehearsal.proofs.party.Party.say.Given as goal
 

@@ -1,9 +1,6 @@
 -- The name has an octet, and is that of no task: so a fresh one is begun, which is that of the world's next upload.
 use Rattle.std.proofs.Common.{refl, subst, rules, arith, length, None, Ok, Err, Result, Option}
-use Rattle.std.proofs.lemmas.Fmt.{decimal_nonempty}
-use Rattle.client_notes.specs.Answers.{StartsBy}
-use Rattle.client_notes.specs.declared.answers.Begun.{Begun}
-use Rattle.client_notes.specs.declared.refusals.NotesRefusal.{NotesRefusal}
+use Rattle.air_rehearsal.proofs.Names.{decimal_nonempty, StartsBy, Begun, NotesRefusal}
 use Rattle.air_rehearsal.proofs.UploadLemmas.{Names, Started, cut_touches, fresh_starts, fresh_touches, started_by}
 use Rattle.air_rehearsal.proofs.UploadLemmas.{lanes_asked, wants_fresh}
 use Rattle.air_rehearsal.proofs.party.Party.start.Goals as goal

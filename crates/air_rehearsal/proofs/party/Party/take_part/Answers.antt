@@ -1,8 +1,6 @@
 -- By whether a cut waits.
 use Rattle.std.proofs.Common.{sym, ◌∙◌, subst}
-use Rattle.disk_model.specs.Cuts.{Cuts, cuts_by}
-use Rattle.air_rehearsal.specs.PartCalls.{ActsPart, BeCut}
-use Rattle.air_rehearsal.specs.declared.party.Party.{Party}
+use Rattle.air_rehearsal.proofs.Names.{Cuts, cuts_by, ActsPart, BeCut, Party}
 use Rattle.air_rehearsal.proofs.ActLemmas.{takes_cut, takes_so}
 use Rattle.air_rehearsal.proofs.party.Party.take_part.Goals.{in-None+in_ok-act-in-None, in-Some+in_ok-be_cut-in-Some}
 use Rattle.air_rehearsal.proofs.party.Party.take_part.Goals as goal

@@ -1,21 +1,9 @@
 -- A part without a command of the notes leaves the disk, on which they stand.
 use Rattle.std.proofs.Common.{◌≡◌, ◌∙◌, ⊎_elim, ℕ, [], ap, refl, subst, sym, Ok}
-use Rattle.std.specs.Prelude.{⊤, Err, Result}
-use Rattle.disk_model.specs.declared.disk.Disk.{Ghosts}
-use Rattle.disk_model.specs.declared.halt.Halt.{Halt}
 use Rattle.px_base.specs.declared.file_bytes.FileBytes.{FileBytes}
-use Rattle.file_journal.specs.Calls.{EachImage}
-use Rattle.client_notes.specs.Notes.{Lists}
-use Rattle.client_notes.specs.State.{NotesState, StandsFor}
 use Rattle.air_attempt.specs.Party.{Party}
-use Rattle.air_world.specs.Cuts.{client_commands}
-use Rattle.air_world.specs.Events.{ClientPart}
-use Rattle.air_rehearsal.specs.Lanes.{HasLanes, lanes_of}
-use Rattle.air_rehearsal.specs.PartCalls.{TouchesPart}
-use Rattle.air_rehearsal.specs.TakingPart.{IsPart, IsSeat, Seat}
-use Rattle.air_rehearsal.specs.declared.part.Part.{Part}
 use Rattle.air_rehearsal.specs.declared.part.Part.TheVariants as stored
-use Rattle.air_rehearsal.specs.declared.party.Party.{Party as StoredParty}
+use Rattle.air_rehearsal.proofs.Names.{⊤, Err, Result, Ghosts, Halt, EachImage, Lists, NotesState, StandsFor, client_commands, ClientPart, HasLanes, lanes_of, TouchesPart, IsPart, IsSeat, Seat, Part, Party as StoredParty}
 use Rattle.air_rehearsal.proofs.PartLemmas.{touches_none}
 use Rattle.air_rehearsal.proofs.party.Party.touch_disk.Goals as goal
 

@@ -1,6 +1,5 @@
 use Rattle.std.proofs.Common.{refl, sym, ap, ◌∙◌, arith, Some, slice_index_or}
-use Rattle.disk_model.specs.Cuts.{cuts_by}
-use Rattle.air_rehearsal.specs.Seats.{clients_of}
+use Rattle.air_rehearsal.proofs.Names.{cuts_by, clients_of}
 use Rattle.air_rehearsal.proofs.HalfwayClients.{broken_leaves}
 use Rattle.air_rehearsal.proofs.PlayApart.{breaks_client}
 use Rattle.air_rehearsal.proofs.PlayParts.{images_there, number_at}

@@ -1,16 +1,8 @@
 -- The tasks of one client more are counted.
 use Rattle.std.proofs.Common.{◌≡◌, ℕ, zero, suc, ◌+◌, ◌<◌, List, [], ◌∷◌, ◌++◌, length, take, Some, sym, ap, subst, ◌∙◌, arith}
 use Rattle.std.proofs.Common.{rules}
-use Rattle.std.specs.Prelude.{slice_get}
-use Rattle.std.specs.List.{flat_map}
-use Rattle.std.proofs.lemmas.List.{flat_map_more}
-use Rattle.std.proofs.lemmas.Option.{same_Some}
-use Rattle.std.proofs.Math.Seq.{take-length}
 use Rattle.air_attempt.specs.Party.{Party}
-use Rattle.air_rehearsal.specs.Ending.{CountsAcked}
-use Rattle.air_rehearsal.specs.Report.{ClientTask, tasks_of}
-use Rattle.air_rehearsal.specs.TakingPart.{Seat}
-use Rattle.air_rehearsal.specs.declared.party.Party.{Party as StoredParty}
+use Rattle.air_rehearsal.proofs.Names.{slice_get, flat_map, flat_map_more, same_Some, take-length, CountsAcked, ClientTask, tasks_of, Seat, Party as StoredParty}
 use Rattle.air_rehearsal.proofs.AckedLemmas.{counts-append}
 use Rattle.air_rehearsal.proofs.LooksLemmas.{looks-at-end, looks-on}
 use Rattle.air_rehearsal.proofs.PartiesLemmas.{parties-count, party-of}

@@ -1,12 +1,6 @@
 -- The tasks of the clients so far are counted, and nothing but reads was made.
-use Rattle.std.specs.Prelude.{◌≡◌, take}
-use Rattle.std.specs.List.{flat_map}
-use Rattle.file_store.specs.State.{IsKnown, store_on}
-use Rattle.air_world.specs.Sound.{Sound}
-use Rattle.air_world.specs.World.{World}
-use Rattle.air_rehearsal.specs.Ending.{CountsAcked, LooksOnly}
-use Rattle.air_rehearsal.specs.Report.{tasks_of}
-use Rattle.air_rehearsal.specs.Worlds.{PlaysStations}
+use Rattle.std.specs.Prelude.{◌≡◌}
+use Rattle.air_rehearsal.proofs.Names.{take, flat_map, IsKnown, store_on, Sound, World, CountsAcked, LooksOnly, tasks_of, PlaysStations}
 use Rattle.air_rehearsal.proofs.stations.Stations.count_all.Given as goal
 
 abbrev pub invariant-loop-party : goal.invariant-loop-party

@@ -1,12 +1,7 @@
 -- The notes tell whether the client holds an acknowledgement of the task's file.
 use Rattle.std.proofs.Common.{◌≡◌, ℕ, Bool, Some, ap, sym, subst, ◌∙◌, rules}
-use Rattle.std.proofs.lemmas.Option.{same_Some}
-use Rattle.client_notes.specs.Answers.{noted_at}
-use Rattle.client_notes.specs.Notes.{Lists}
-use Rattle.client_notes.specs.State.{NotesState}
 use Rattle.client_notes.specs.declared.answers.Noted.TheVariants as noted
-use Rattle.air_files.specs.Kept.{HoldsAck}
-use Rattle.air_rehearsal.specs.Counting.{TellsThen, acked_more}
+use Rattle.air_rehearsal.proofs.Names.{same_Some, noted_at, Lists, NotesState, HoldsAck, TellsThen, acked_more}
 use Rattle.air_rehearsal.proofs.AckedLemmas.{counts-not, counts-one}
 use Rattle.air_rehearsal.proofs.KeptLemmas.{acked-number}
 use Rattle.air_rehearsal.proofs.stations.Stations.count_task.Goals as goal

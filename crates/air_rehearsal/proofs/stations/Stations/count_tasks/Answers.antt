@@ -1,9 +1,6 @@
 -- One task more is counted.
 use Rattle.std.proofs.Common.{ℕ, ◌+◌, List, [], ◌∷◌, map, sym, subst, arith}
-use Rattle.std.specs.List.{range_with_len}
-use Rattle.std.proofs.lemmas.List.FromFn.{map-range_with_len_more}
-use Rattle.air_rehearsal.specs.Ending.{CountsAcked}
-use Rattle.air_rehearsal.specs.Report.{ClientTask}
+use Rattle.air_rehearsal.proofs.Names.{range_with_len, map-range_with_len_more, CountsAcked, ClientTask}
 use Rattle.air_rehearsal.proofs.AckedLemmas.{counts-append}
 use Rattle.air_rehearsal.proofs.LooksLemmas.{looks-at-end, looks-on}
 use Rattle.air_rehearsal.proofs.stations.Stations.count_tasks.Goals as goal

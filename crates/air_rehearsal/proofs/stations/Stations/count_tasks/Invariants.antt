@@ -1,8 +1,5 @@
 -- The tasks so far are counted, and nothing but reads was made.
-use Rattle.std.specs.Prelude.{map}
-use Rattle.std.specs.List.{range_with_len}
-use Rattle.air_rehearsal.specs.Ending.{CountsAcked, IsAtEnd, LooksOnly}
-use Rattle.air_rehearsal.specs.TakingPart.{Seat}
+use Rattle.air_rehearsal.proofs.Names.{map, range_with_len, CountsAcked, IsAtEnd, LooksOnly, Seat}
 use Rattle.air_rehearsal.proofs.stations.Stations.count_tasks.Given as goal
 
 abbrev pub invariant-loop-before : goal.invariant-loop-before

@@ -1,5 +1,5 @@
 -- The recovered store is the world's, and nothing but reads was made behind the recovery.
-use Rattle.air_rehearsal.specs.Stations.{the_server}
+use Rattle.air_rehearsal.proofs.Names.{the_server}
 use Rattle.air_rehearsal.proofs.EndLemmas.{ends-so, recovered-known, recovered-store, tries-reads}
 use Rattle.air_rehearsal.proofs.stations.Stations.end.Goals as goal
 

@@ -1,8 +1,5 @@
 use Rattle.std.proofs.Common.{◌≡◌, refl, sym, ap, ◌∙◌, subst, suc, ℕ, IfOk, OnErr}
-use Rattle.disk_model.specs.Cuts.{cuts_by}
-use Rattle.air_schedule.specs.Events.{event_value}
-use Rattle.air_world.specs.Schedule.{Event, tick_server, to_server}
-use Rattle.air_rehearsal.specs.Playing.{bench_of}
+use Rattle.air_rehearsal.proofs.Names.{cuts_by, event_value, Event, tick_server, to_server, bench_of}
 use Rattle.air_rehearsal.proofs.PlayParts.{if_ok, number_at, on_ok_of}
 use Rattle.air_rehearsal.proofs.HalfwayServer.{StopsSo, on_err, server_event}
 use Rattle.air_rehearsal.proofs.PlayServer.{GoesSo, awaits, goes_event, served_ready}

@@ -1,11 +1,6 @@
 use Rattle.std.proofs.Common.{refl, sym, subst, Some}
-use Rattle.disk_model.specs.Cuts.{cuts_by}
-use Rattle.air_schedule.specs.Events.{event_value}
 use Rattle.air_schedule.specs.declared.event.Event.{Event as StoredEvent}
-use Rattle.air_rehearsal.specs.Halfway.{StopsApart}
-use Rattle.air_rehearsal.specs.Seats.{GoesApart, clients_of}
-use Rattle.air_rehearsal.specs.declared.cuts.Cut.{Cut}
-use Rattle.air_rehearsal.specs.declared.stations.Stations.{Stations}
+use Rattle.air_rehearsal.proofs.Names.{cuts_by, event_value, StopsApart, GoesApart, clients_of, Cut, Stations}
 use Rattle.air_rehearsal.proofs.HalfwayClients.{broken_apart, untouched_apart}
 use Rattle.air_rehearsal.proofs.PlayApart.{notes_server_cut}
 use Rattle.air_rehearsal.proofs.stations.Stations.go_apart.Goals as goal

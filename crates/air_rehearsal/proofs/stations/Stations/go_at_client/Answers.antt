@@ -1,7 +1,5 @@
 use Rattle.std.proofs.Common.{refl}
-use Rattle.disk_model.specs.Cuts.{cuts_by}
-use Rattle.air_schedule.specs.Events.{event_value}
-use Rattle.air_rehearsal.specs.Seats.{clients_of}
+use Rattle.air_rehearsal.proofs.Names.{cuts_by, event_value, clients_of}
 use Rattle.air_rehearsal.proofs.HalfwayClients.{taken_apart, untouched_apart}
 use Rattle.air_rehearsal.proofs.PlayApart.{goes_taken}
 use Rattle.air_rehearsal.proofs.PlayParts.{on_ok}

@@ -1,6 +1,6 @@
 -- By the client of the number.
 use Rattle.std.proofs.Common.{true, refl}
-use Rattle.std.specs.Prelude.{⊤}
+use Rattle.air_rehearsal.proofs.Names.{⊤}
 use Rattle.air_rehearsal.proofs.AllowedLemmas.{has-party, none-there, of-party}
 use Rattle.air_rehearsal.proofs.stations.Stations.has_party.Goals as goal
 

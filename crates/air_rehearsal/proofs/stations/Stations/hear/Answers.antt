@@ -1,13 +1,8 @@
 -- The frame that is heard is the one that the world delivers; where no frame is heard the world delivers none.
 use Rattle.std.proofs.Common.{◌≡◌, ◌<◌, List, length, Ok, refl, subst, ◌∙◌, rules, arith}
-use Rattle.std.proofs.lemmas.List.{get_or-set_same}
 use Rattle.std.specs.Vec.{with_item}
-use Rattle.ax25_frames.specs.FrameText.{FrameText}
 use Rattle.ax25_frames.specs.Values.{value_of}
-use Rattle.ax25_link.specs.Air.{IsAt, Transmission}
-use Rattle.air_rehearsal.specs.Lanes.{IsLane}
-use Rattle.air_rehearsal.specs.ServerEvents.{serving}
-use Rattle.air_rehearsal.specs.declared.party.Party.{Party}
+use Rattle.air_rehearsal.proofs.Names.{get_or-set_same, FrameText, IsAt, Transmission, IsLane, serving, Party}
 use Rattle.air_rehearsal.proofs.ReadyLemmas.{read_at}
 use Rattle.air_rehearsal.proofs.ServingKeeps.{keep-refl, keep-set}
 use Rattle.air_rehearsal.proofs.ServingTaken.{client-there, comes, is-for, taken-so, text-of}

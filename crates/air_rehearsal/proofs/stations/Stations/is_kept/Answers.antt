@@ -1,11 +1,6 @@
 -- In a sound world each file that was acknowledged is kept: the store has it, stamped.
 use Rattle.std.proofs.Common.{◌≡◌, List, ℕ, Some, sym, subst, ◌∙◌}
-use Rattle.std.proofs.lemmas.Option.{same_Some}
-use Rattle.px_base.specs.CallSign.{CallSign}
-use Rattle.file_store.specs.State.{store_on}
-use Rattle.file_store.specs.Store.{Store}
-use Rattle.air_files.specs.Kept.{IsKept}
-use Rattle.air_rehearsal.specs.Ending.{IsStampedFor, IsUpload}
+use Rattle.air_rehearsal.proofs.Names.{same_Some, CallSign, store_on, Store, IsKept, IsStampedFor, IsUpload}
 use Rattle.air_rehearsal.proofs.KeptLemmas.{task-upload}
 use Rattle.air_rehearsal.proofs.stations.Stations.is_kept.Goals as goal
 

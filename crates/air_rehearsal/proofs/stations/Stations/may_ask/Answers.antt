@@ -1,5 +1,5 @@
 -- By the client of the number.
-use Rattle.air_world.specs.Lawful.{IsFree}
+use Rattle.air_rehearsal.proofs.Names.{IsFree}
 use Rattle.air_rehearsal.proofs.AllowedLemmas.{has-party, none-there, of-party}
 use Rattle.air_rehearsal.proofs.stations.Stations.may_ask.Goals as goal
 

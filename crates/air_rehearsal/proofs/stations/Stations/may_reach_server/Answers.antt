@@ -1,8 +1,6 @@
 -- By the client of the number.
 use Rattle.std.proofs.Common.{List, refl, subst, sym}
-use Rattle.ax25_link.specs.Air.{Transmission}
-use Rattle.air_world.specs.Lawful.{MayCome}
-use Rattle.air_rehearsal.specs.Lanes.{IsLane}
+use Rattle.air_rehearsal.proofs.Names.{Transmission, MayCome, IsLane}
 use Rattle.air_rehearsal.proofs.AllowedLemmas.{has-party, may-come, none-there, of-party}
 use Rattle.air_rehearsal.proofs.stations.Stations.may_reach_server.Goals as goal
 

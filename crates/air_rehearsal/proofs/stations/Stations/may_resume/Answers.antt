@@ -1,8 +1,6 @@
 -- By the client of the number.
 use Rattle.std.proofs.Common.{◌≡◌, ℕ, Some}
-use Rattle.air_world.specs.Lawful.{IsFree, last_unfinished}
-use Rattle.air_rehearsal.specs.Asking.{MayResume}
-use Rattle.air_rehearsal.specs.TakingPart.{Seat}
+use Rattle.air_rehearsal.proofs.Names.{IsFree, last_unfinished, MayResume, Seat}
 use Rattle.air_rehearsal.proofs.AllowedLemmas.{both-if, both-unless, going-some, has-party, none-there, of-party}
 use Rattle.air_rehearsal.proofs.stations.Stations.may_resume.Goals as goal
 

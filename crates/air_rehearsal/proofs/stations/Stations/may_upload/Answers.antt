@@ -1,10 +1,6 @@
 -- By the client of the number.
 use Rattle.std.proofs.Common.{◌<◌}
-use Rattle.client_notes.specs.Limits.{most_tasks}
-use Rattle.client_notes.specs.Notes.{task_count}
-use Rattle.air_world.specs.Lawful.{IsFree}
-use Rattle.air_rehearsal.specs.Asking.{MayTakeFile}
-use Rattle.air_rehearsal.specs.TakingPart.{Seat}
+use Rattle.air_rehearsal.proofs.Names.{most_tasks, task_count, IsFree, MayTakeFile, Seat}
 use Rattle.air_rehearsal.proofs.AllowedLemmas.{both-if, both-unless, has-party, none-there, of-party}
 use Rattle.air_rehearsal.proofs.stations.Stations.may_upload.Goals as goal
 

@@ -1,6 +1,5 @@
 use Rattle.std.proofs.Common.{refl, sym, ◌∙◌, arith}
-use Rattle.disk_model.specs.Cuts.{cuts_by}
-use Rattle.air_rehearsal.specs.Seats.{clients_of}
+use Rattle.air_rehearsal.proofs.Names.{cuts_by, clients_of}
 use Rattle.air_rehearsal.proofs.PlayApart.{notes_cut}
 use Rattle.air_rehearsal.proofs.PlayParts.{number_at}
 use Rattle.air_rehearsal.proofs.ReadyLemmas.{read_at, ready_still}

@@ -1,5 +1,5 @@
 use Rattle.std.proofs.Common.{◌∙◌, subst}
-use Rattle.air_rehearsal.specs.PartyCalls.{IsLastGoing}
+use Rattle.air_rehearsal.proofs.Names.{IsLastGoing}
 use Rattle.air_rehearsal.proofs.Comes.{resume_comes}
 use Rattle.air_rehearsal.proofs.PlayParts.{if_ok}
 use Rattle.air_rehearsal.proofs.stations.Stations.old_upload.Goals as goal

@@ -1,9 +1,6 @@
 -- The server's call is the one that is read, and nothing was asked yet.
 use Rattle.std.proofs.Common.{◌≡◌, length, refl, subst}
-use Rattle.px_base.specs.CallSign.{CallSign}
-use Rattle.disk_model.specs.Cuts.{Cuts, cuts_by}
-use Rattle.air_world.specs.World.{pacsat}
-use Rattle.air_rehearsal.specs.Opening.{OpensFirst}
+use Rattle.air_rehearsal.proofs.Names.{CallSign, Cuts, cuts_by, pacsat, OpensFirst}
 use Rattle.air_rehearsal.proofs.OpeningLemmas.{is_pacsat}
 use Rattle.air_rehearsal.proofs.stations.Stations.open.Goals as goal
 

@@ -1,8 +1,7 @@
 use Rattle.std.proofs.Common.{sym, ap, ◌∙◌, subst, IfOk}
-use Rattle.air_schedule.specs.Events.{event_value}
 use Rattle.air_schedule.specs.declared.event.Event.{Event as StoredEvent}
-use Rattle.air_rehearsal.specs.Seats.{ComesAlways}
 use Rattle.air_rehearsal.specs.declared.part.Part.TheVariants as part
+use Rattle.air_rehearsal.proofs.Names.{event_value, ComesAlways}
 use Rattle.air_rehearsal.proofs.Comes.{download_comes, hear_comes, list_comes, tick_comes}
 use Rattle.air_rehearsal.proofs.PlayParts.{if_ok, number_at}
 use Rattle.air_rehearsal.proofs.stations.Stations.part_of.Goals as goal

@@ -1,9 +1,5 @@
 use Rattle.std.proofs.Common.{◌∷◌, sym, subst}
-use Rattle.disk_model.specs.Cuts.{cuts_by}
-use Rattle.air_schedule.specs.Events.{event_value}
-use Rattle.air_rehearsal.specs.Playing.{bench_of}
-use Rattle.air_rehearsal.specs.Ready.{AreReady}
-use Rattle.air_rehearsal.specs.declared.stations.Stations.{Stations}
+use Rattle.air_rehearsal.proofs.Names.{cuts_by, event_value, bench_of, AreReady, Stations}
 use Rattle.air_rehearsal.proofs.PlayParts.{if_ok}
 use Rattle.air_rehearsal.proofs.HalfwayPlay.{counted_event}
 use Rattle.air_rehearsal.proofs.HalfwayServer.{on_err}

@@ -1,9 +1,6 @@
 -- What is sent is replied in the client's attempt.
 use Rattle.std.proofs.Common.{◌≡◌, refl, sym, ap, subst, ◌∙◌}
-use Rattle.std.specs.Prelude.{slice_set}
-use Rattle.std.proofs.lemmas.Option.{same_Some}
-use Rattle.air_rehearsal.specs.ServerCalls.{SendsReplies}
-use Rattle.air_rehearsal.specs.declared.party.Party.{Party}
+use Rattle.air_rehearsal.proofs.Names.{slice_set, same_Some, SendsReplies, Party}
 use Rattle.air_rehearsal.proofs.PairLemmas.{get-none, get-some}
 use Rattle.air_rehearsal.proofs.ServingKeeps.{keep-refl, keep-set}
 use Rattle.air_rehearsal.proofs.ServingSent.{on-ok, on-ok-more}

@@ -1,6 +1,5 @@
 -- The server that starts is a new one, over the store that its disk holds then.
-use Rattle.file_store.specs.State.{store_on}
-use Rattle.file_store.proofs.Offered.{stands-each}
+use Rattle.air_rehearsal.proofs.Names.{store_on, stands-each}
 use Rattle.air_rehearsal.proofs.stations.Stations.restart_server.Goals as goal
 
 pub returns-in-Ok-clause-restarts : goal.returns-in-Ok-clause-restarts

@@ -1,8 +1,6 @@
 -- Each frame is handed out by the server and sent to the client that it is for, until nothing is left.
 use Rattle.std.proofs.Common.{ℕ, List, refl, sym, subst, ◌∙◌}
-use Rattle.ax25_frames.specs.FrameText.{FrameText}
-use Rattle.ax25_link.specs.Window.{IsGoodK}
-use Rattle.file_store.specs.State.{IsReady, StoreState}
+use Rattle.air_rehearsal.proofs.Names.{FrameText, IsGoodK, IsReady, StoreState}
 use Rattle.air_rehearsal.proofs.ServingKeeps.{keeps-self, keeps-then, says-all, says-first, says-more}
 use Rattle.air_rehearsal.proofs.ServingSent.{on-ok}
 use Rattle.air_rehearsal.proofs.stations.Stations.say.Goals as goal

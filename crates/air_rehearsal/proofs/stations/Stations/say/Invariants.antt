@@ -1,10 +1,6 @@
 -- The server still stands on its disk, has sent some frames, and has fewer to give out.
 use Rattle.std.proofs.Common.{◌≡◌}
-use Rattle.file_store.specs.Store.{Store}
-use Rattle.ftl0_server.specs.Calls.{SameStore}
-use Rattle.ftl0_server.specs.Server.{Server}
-use Rattle.ftl0_server.specs.ServerState.{IsServer, server_most}
-use Rattle.air_rehearsal.specs.Ready.{IsUp, KeepsClients}
+use Rattle.air_rehearsal.proofs.Names.{Store, SameStore, Server, IsServer, server_most, IsUp, KeepsClients}
 use Rattle.air_rehearsal.proofs.ServingKeeps.{SaysSoFar}
 use Rattle.air_rehearsal.proofs.stations.Stations.say.Given as goal
 

@@ -1,6 +1,6 @@
 -- Each client in its turn is sent the frame, if it is for it.
 use Rattle.std.proofs.Common.{◌<◌, length, refl, sym, ap, arith}
-use Rattle.ax25_frames.specs.FrameText.{FrameValue}
+use Rattle.air_rehearsal.proofs.Names.{FrameValue}
 use Rattle.air_rehearsal.proofs.ReadyLemmas.{read_at}
 use Rattle.air_rehearsal.proofs.ServingKeeps.{keep-length, keep-on, keep-set, keeps-self, timed-end, timed-start}
 use Rattle.air_rehearsal.proofs.ServingKeeps.{timed-step}

@@ -1,7 +1,6 @@
 -- The clients so far were sent the frame, if it is for them, and nothing else changed.
 use Rattle.std.proofs.Common.{◌≡◌}
-use Rattle.ax25_frames.specs.FrameText.{FrameText, FrameValue}
-use Rattle.air_rehearsal.specs.Ready.{KeepsClients}
+use Rattle.air_rehearsal.proofs.Names.{FrameText, FrameValue, KeepsClients}
 use Rattle.air_rehearsal.proofs.ServingKeeps.{TimedSoFar}
 use Rattle.air_rehearsal.proofs.stations.Stations.send.Given as goal
 

@@ -1,9 +1,5 @@
 use Rattle.std.proofs.Common.{refl, ap, ◌∙◌, subst, arith, Bool, Some, slice_index_or}
-use Rattle.disk_model.specs.Cuts.{cuts_by}
-use Rattle.ftl0_client.specs.Outcomes.{outcome_by}
-use Rattle.ftl0_client.specs.declared.outcome.Outcome.{Outcome}
-use Rattle.air_rehearsal.specs.Counting.{TellsThen, asked_more, cut_more, outcome_more}
-use Rattle.air_rehearsal.specs.Seats.{clients_of}
+use Rattle.air_rehearsal.proofs.Names.{cuts_by, outcome_by, Outcome, TellsThen, asked_more, cut_more, outcome_more, clients_of}
 use Rattle.air_rehearsal.proofs.HalfwayClients.{may_leave}
 use Rattle.air_rehearsal.proofs.PlayParts.{counts_busy, counts_free, images_there, is_free_so, not_free_so, took_part}
 use Rattle.air_rehearsal.proofs.ReadyLemmas.{read_at, ready_after}

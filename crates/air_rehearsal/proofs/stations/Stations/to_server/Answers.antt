@@ -1,16 +1,6 @@
 -- The server takes part in the event of the frame that it hears.
-use Rattle.std.proofs.lemmas.Grind.{common_steps}
 use Rattle.std.proofs.Common.{◌≡◌, Option, None, Some, false, true, refl, sym, ap, subst, ◌∙◌, suc, arith}
-use Rattle.std.specs.Prelude.{is_ok}
-use Rattle.disk_model.specs.Cuts.{cuts_by}
-use Rattle.air_world.specs.Schedule.{to_server}
-use Rattle.air_rehearsal.specs.Ready.{KeepsClients}
-use Rattle.air_rehearsal.specs.ServerCalls.{ArmsFor, IsTaken}
-use Rattle.air_rehearsal.specs.Halfway.{StopsBy}
-use Rattle.air_rehearsal.specs.ServerEvents.{server_stage, serving, waiting_of}
-use Rattle.air_rehearsal.specs.Stations.{acts, the_server}
-use Rattle.air_rehearsal.specs.declared.cuts.Cut.{Cut}
-use Rattle.air_rehearsal.specs.declared.stations.Stations.{Stations}
+use Rattle.air_rehearsal.proofs.Names.{common_steps, is_ok, cuts_by, to_server, KeepsClients, ArmsFor, IsTaken, StopsBy, server_stage, serving, waiting_of, acts, the_server, Cut, Stations}
 use Rattle.air_rehearsal.proofs.LaneLaws.{hearing_lanes}
 use Rattle.air_rehearsal.proofs.SameContent.{arms-content, plays-armed}
 use Rattle.air_rehearsal.proofs.Served.{serves-cut}

@@ -1,9 +1,6 @@
 -- A line that is none of a client or an event can't follow.
 use Rattle.std.proofs.Common.{◌≡◌, ◌∷◌, ◌++◌, ap, sym, subst}
-use Rattle.air_schedule.specs.Causes.{IsCause}
-use Rattle.air_schedule.specs.declared.fault.LineFault.TheVariants.{NoLine}
-use Rattle.air_schedule.specs.Events.{IsNoEvent}
-use Rattle.air_schedule.specs.Text.{BeginSchedule, LineText, LineWords, client_line, lines_of, words_of}
+use Rattle.air_schedule.proofs.Names.{IsCause, NoLine, IsNoEvent, BeginSchedule, LineText, LineWords, client_line, lines_of, words_of}
 use Rattle.air_schedule.proofs.LineLemmas.{line_is_text}
 use Rattle.air_schedule.proofs.ScheduleLemmas.{one_line, no_line_follows}
 use Rattle.air_schedule.proofs.schedule.Schedule.add.Goals as goal

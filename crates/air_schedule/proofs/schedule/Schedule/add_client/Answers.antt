@@ -1,10 +1,6 @@
 -- A client may follow where there are fewer than eight, no event stands, and none has its call.
 use Rattle.std.proofs.Common.{◌≡◌, ◌<◌, ◌≤◌, [], ◌∷◌, ◌++◌, length, map, true, false, ap, sym, subst, ◌∙◌, arith, length-append}
-use Rattle.std.specs.List.{list_any}
-use Rattle.std.proofs.lemmas.Bool.{eqb-false}
-use Rattle.std.proofs.lemmas.List.{length-map}
-use Rattle.air_schedule.specs.Schedule.{AreDistinct, IsSchedule, Schedule}
-use Rattle.air_schedule.specs.Events.{event_value}
+use Rattle.air_schedule.proofs.Names.{list_any, eqb-false, length-map, AreDistinct, IsSchedule, Schedule, event_value}
 use Rattle.air_schedule.proofs.ScheduleLemmas.{IsSchedule-client, client_follows, is_known, is_new, is_same, not_distinct}
 use Rattle.air_schedule.proofs.schedule.Schedule.add_client.Goals.{In_ok-push, then-is_full-via-then-is_full, then-is_full-via-else-is_full+then-not-is_empty, then-is_full-via-else-is_full+else-not-is_empty+then-contains}
 use Rattle.air_schedule.proofs.schedule.Schedule.add_client.Goals as goal

@@ -1,9 +1,6 @@
 -- One more event is one more line.
 use Rattle.std.proofs.Common.{◌≡◌, ◌∷◌, ◌++◌, [], List, map, ap, sym, subst, ◌∙◌}
-use Rattle.std.proofs.lemmas.List.{map-append}
-use Rattle.air_schedule.specs.Schedule.{Event, IsSchedule, Schedule}
-use Rattle.air_schedule.specs.Events.{event_value}
-use Rattle.air_schedule.specs.Text.{event_line, lines_of}
+use Rattle.air_schedule.proofs.Names.{map-append, Event, IsSchedule, Schedule, event_value, event_line, lines_of}
 use Rattle.air_schedule.proofs.ScheduleLemmas.{IsSchedule-event, lines_of-event}
 use Rattle.air_schedule.proofs.schedule.Schedule.add_event.Goals.{In_ok-push}
 use Rattle.air_schedule.proofs.schedule.Schedule.add_event.Goals as goal

@@ -1,10 +1,7 @@
 -- The lines that were read are those of the schedule, and the next one is the first that isn't.
 use Rattle.std.proofs.Common.{◌≡◌, ℕ, ◌+◌, ◌<◌, ◌≤◌, ◌⊎◌, inl, inr, List, [], ◌∷◌, ◌++◌, Err, length, ap, sym, subst, ◌∙◌, refl, arith, length-append}
-use Rattle.std.proofs.lemmas.Bool.{eqb-false, eqb-true}
-use Rattle.air_schedule.specs.Text.{FirstBadLine, Line, LineText, LinesThen, lines_of, parts_of}
-use Rattle.air_schedule.specs.declared.fault.LineFault.{LineFault}
-use Rattle.air_schedule.specs.declared.fault.LineFault.TheVariants.{NoLine, OutOfMemory}
 use Rattle.air_schedule.specs.declared.fault.ScheduleFault.TheVariants.{BadLine, OutOfMemory as no_memory}
+use Rattle.air_schedule.proofs.Names.{eqb-false, eqb-true, FirstBadLine, Line, LineText, LinesThen, lines_of, parts_of, LineFault, NoLine, OutOfMemory}
 use Rattle.air_schedule.proofs.ReadLemmas.{begins, nothing_begins, nothing_left, refused, unended, window_first, LinesThen-more}
 use Rattle.air_schedule.proofs.schedule.Schedule.read.Goals as goal
 

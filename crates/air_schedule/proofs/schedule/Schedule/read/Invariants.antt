@@ -1,7 +1,6 @@
 -- The lines that were read, and what is left of the text.
 use Rattle.std.proofs.Common.{◌≡◌, ◌+◌, ◌≤◌, length}
-use Rattle.air_schedule.specs.Schedule.{IsSchedule}
-use Rattle.air_schedule.specs.Text.{LinesThen, lines_of, parts_of}
+use Rattle.air_schedule.proofs.Names.{IsSchedule, LinesThen, lines_of, parts_of}
 use Rattle.air_schedule.proofs.schedule.Schedule.read.Given as goal
 
 abbrev pub invariant-loop-rest : goal.invariant-loop-rest

@@ -1,6 +1,5 @@
 use Rattle.std.proofs.Common.{ap, ◌∙◌, length, length-drop}
-use Rattle.ax25_link.specs.Kept.{Kept}
-use Rattle.ax25_link.specs.Sending.{after_new}
+use Rattle.ax25_link.proofs.Names.{Kept, after_new}
 use Rattle.ax25_link.proofs.FrameLemmas.{new-is, text-same}
 use Rattle.ax25_link.proofs.link.Link.send_new.Goals as goal
 

@@ -1,7 +1,5 @@
 use Rattle.std.proofs.Common.{ap, ◌∙◌, List, ℕ, ◌+◌, ◌%◌, [], ◌++◌}
-use Rattle.std.specs.Prelude.{slice_get, unwrap_or}
-use Rattle.ax25_frames.specs.FrameText.{canonical}
-use Rattle.ax25_link.specs.Kept.{Kept}
+use Rattle.ax25_link.proofs.Names.{slice_get, unwrap_or, canonical, Kept}
 use Rattle.ax25_link.proofs.FrameLemmas.{information-is, canonical-append, text-append, text-same, numbered}
 use Rattle.ax25_link.proofs.link.Link.write_information.Goals as goal
 

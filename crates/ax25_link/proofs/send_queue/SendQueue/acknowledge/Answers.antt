@@ -1,9 +1,5 @@
 use Rattle.std.proofs.Common.{◌≡◌, ℕ, ◌-◌, ◌≤◌, take, drop, ap, ◌∙◌, sym, subst, List, length, arith}
-use Rattle.std.specs.Prelude.{sum}
-use Rattle.std.proofs.lemmas.List.{length-take-le}
-use Rattle.std.proofs.lemmas.List.Sums.{sum_by-take-le}
-use Rattle.circular_buffer.specs.Buffer.{Buffer, buffer}
-use Rattle.ax25_link.specs.Queue.{Queue, AreSizes, queue_of}
+use Rattle.ax25_link.proofs.Names.{sum, length-take-le, sum_by-take-le, Buffer, buffer, Queue, AreSizes, queue_of}
 use Rattle.ax25_link.proofs.QueueLemmas.{length-cut, queue-drop, few-take, drop-AreSizes}
 use Rattle.ax25_link.proofs.send_queue.SendQueue.acknowledge.Goals as goal
 

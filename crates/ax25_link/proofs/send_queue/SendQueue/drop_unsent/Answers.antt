@@ -1,7 +1,5 @@
 use Rattle.std.proofs.Common.{ℕ, ◌≤◌, [], take, ap, ◌∙◌, subst, List, length, arith}
-use Rattle.std.specs.Prelude.{sum}
-use Rattle.circular_buffer.specs.Buffer.{Buffer}
-use Rattle.ax25_link.specs.Queue.{Queue, queue_of}
+use Rattle.ax25_link.proofs.Names.{sum, Buffer, Queue, queue_of}
 use Rattle.ax25_link.proofs.QueueLemmas.{queue-take, few}
 use Rattle.ax25_link.proofs.send_queue.SendQueue.drop_unsent.Goals as goal
 

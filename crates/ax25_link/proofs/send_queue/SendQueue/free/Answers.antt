@@ -1,5 +1,5 @@
 use Rattle.std.proofs.Common.{ℕ, ◌-◌, ap, ◌∙◌, sym, List, length}
-use Rattle.ax25_link.specs.Queue.{room_of}
+use Rattle.ax25_link.proofs.Names.{room_of}
 use Rattle.ax25_link.proofs.QueueLemmas.{octets_of-queue_of}
 use Rattle.ax25_link.proofs.send_queue.SendQueue.free.Goals as goal
 

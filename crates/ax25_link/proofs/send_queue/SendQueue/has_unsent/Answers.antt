@@ -1,5 +1,5 @@
 use Rattle.std.proofs.Common.{ap, arith}
-use Rattle.std.specs.Prelude.{sum}
+use Rattle.ax25_link.proofs.Names.{sum}
 use Rattle.ax25_link.proofs.send_queue.SendQueue.has_unsent.Goals as goal
 
 pub total-requires : goal.total-requires

@@ -1,6 +1,6 @@
 use Rattle.std.proofs.Common.{ap, arith, length}
 use Rattle.std.proofs.lemmas.Grind.{common_steps}
-use Rattle.ax25_link.specs.Queue.{Queue}
+use Rattle.ax25_link.proofs.Names.{Queue}
 use Rattle.ax25_link.proofs.QueueLemmas.{length-cut}
 use Rattle.ax25_link.proofs.send_queue.SendQueue.outstanding.Goals as goal
 

@@ -1,6 +1,5 @@
 use Rattle.std.proofs.Common.{ℕ, ◌-◌, ◌++◌, min, take, ap, ◌∙◌, sym, List, length}
-use Rattle.circular_buffer.specs.Buffer.{Buffer}
-use Rattle.ax25_link.specs.Queue.{Queue, queue_of, room_of}
+use Rattle.ax25_link.proofs.Names.{Buffer, Queue, queue_of, room_of}
 use Rattle.ax25_link.proofs.QueueLemmas.{octets_of-queue_of, queue-append}
 use Rattle.ax25_link.proofs.send_queue.SendQueue.push.Goals as goal
 

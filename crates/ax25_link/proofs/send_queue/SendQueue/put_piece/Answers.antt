@@ -1,10 +1,5 @@
 use Rattle.std.proofs.Common.{◌≡◌, ℕ, ◌+◌, ◌-◌, ◌++◌, [], ◌<◌, ◌≤◌, take, drop, get_or, ap, ◌∙◌, sym, subst, List, length, length-take, arith}
-use Rattle.std.specs.Prelude.{sum, slice_get, unwrap_or}
-use Rattle.std.proofs.lemmas.List.{length-take-le}
-use Rattle.std.proofs.lemmas.List.Elements.{All-get_or}
-use Rattle.std.proofs.lemmas.List.Sums.{sum_by_more_le}
-use Rattle.px_base.specs.Octets.{IsOctets}
-use Rattle.ax25_link.specs.Queue.{Queue}
+use Rattle.ax25_link.proofs.Names.{sum, slice_get, unwrap_or, length-take-le, All-get_or, sum_by_more_le, IsOctets, Queue}
 use Rattle.ax25_link.proofs.QueueLemmas.{length-cut, few-take, piece-cut}
 use Rattle.ax25_link.proofs.send_queue.SendQueue.put_piece.Goals as goal
 

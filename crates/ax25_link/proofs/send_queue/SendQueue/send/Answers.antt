@@ -1,7 +1,5 @@
 use Rattle.std.proofs.Common.{◌≡◌, ℕ, ◌++◌, ◌∷◌, [], min, take, drop, ap, ◌∙◌, List, length, length-drop, arith}
-use Rattle.std.specs.Prelude.{sum}
-use Rattle.std.proofs.lemmas.List.{take_min, drop_min}
-use Rattle.ax25_link.specs.Queue.{Queue, cut}
+use Rattle.ax25_link.proofs.Names.{sum, take_min, drop_min, Queue, cut}
 use Rattle.ax25_link.proofs.QueueLemmas.{cut_push, drop_push}
 use Rattle.ax25_link.proofs.send_queue.SendQueue.send.Goals as goal
 

@@ -1,6 +1,4 @@
-use Rattle.file_journal.specs.Records.{record_of}
-use Rattle.client_notes.specs.Commands.{command_value}
-use Rattle.client_notes.specs.Noting.{lists_of}
+use Rattle.client_notes.proofs.Names.{record_of, command_value, lists_of}
 use Rattle.client_notes.proofs.PutLemmas.{writes-turn}
 use Rattle.client_notes.proofs.changes.BroughtChangeNotedLists.write.Goals as goal
 

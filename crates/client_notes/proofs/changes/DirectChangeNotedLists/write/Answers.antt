@@ -1,10 +1,5 @@
 use Rattle.std.proofs.Common.{sym, subst}
-use Rattle.std.specs.Prelude.{IsTrue}
-use Rattle.file_journal.specs.Records.{record_of}
-use Rattle.client_notes.specs.Command.{is_allowed}
-use Rattle.client_notes.specs.Commands.{command_value}
-use Rattle.client_notes.specs.Notes.{Lists}
-use Rattle.client_notes.specs.Noting.{lists_of}
+use Rattle.client_notes.proofs.Names.{IsTrue, record_of, is_allowed, command_value, Lists, lists_of}
 use Rattle.client_notes.proofs.KeptLemmas.{all-noted}
 use Rattle.client_notes.proofs.PutLemmas.{writes-turn}
 use Rattle.client_notes.proofs.changes.DirectChangeNotedLists.write.Goals as goal

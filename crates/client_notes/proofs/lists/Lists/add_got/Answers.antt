@@ -1,10 +1,5 @@
 use Rattle.std.proofs.Common.{◌≡◌, ◌+◌, ◌≤◌, List, length, Some, sym, ◌∙◌, ap, subst, ℕ}
-use Rattle.std.specs.List.{position}
-use Rattle.std.specs.Prelude.{slice_set}
-use Rattle.client_notes.specs.Limits.{longest_file}
-use Rattle.client_notes.specs.Applied.{cut_to}
-use Rattle.client_notes.specs.Command.{changed_at, with_got}
-use Rattle.client_notes.specs.Notes.{GotFile, Lists, got_of, is_file_of}
+use Rattle.client_notes.proofs.Names.{position, slice_set, longest_file, cut_to, changed_at, with_got, GotFile, Lists, got_of, is_file_of}
 use Rattle.client_notes.proofs.ListLemmas.{back-got, got-fits, got-there, lists_of, place-within, same-file, with-got}
 use Rattle.client_notes.proofs.lists.Lists.add_got.Goals as goal
 use Rattle.client_notes.proofs.lists.Lists.add_got.Goals.{After-index_mut}

@@ -1,8 +1,6 @@
 use Rattle.std.proofs.Common.{◌∙◌, ap, rules}
-use Rattle.std.specs.Prelude.{not}
 use Rattle.std.proofs.lemmas.Fn.{filter_same}
-use Rattle.client_notes.specs.Command.{without_got}
-use Rattle.client_notes.specs.Notes.{GotFile, Lists, is_file_of}
+use Rattle.client_notes.proofs.Names.{not, without_got, GotFile, Lists, is_file_of}
 use Rattle.client_notes.proofs.ListLemmas.{lists_of}
 use Rattle.client_notes.proofs.lists.Lists.forget.Goals as goal
 

@@ -1,5 +1,5 @@
 use Rattle.std.proofs.Common.{◌∙◌, ap}
-use Rattle.client_notes.specs.Notes.{octets_or_none}
+use Rattle.client_notes.proofs.Names.{octets_or_none}
 use Rattle.client_notes.proofs.lists.Lists.got.Goals as goal
 
 pub returns-in-Some-clause-octets : goal.returns-in-Some-clause-octets

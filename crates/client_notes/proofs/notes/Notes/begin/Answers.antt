@@ -1,11 +1,6 @@
 use Rattle.std.proofs.Common.{◌≡◌, ℕ, ◌+◌, Err, Ok, ◌∙◌, ap, subst, inl, refl}
-use Rattle.std.specs.Prelude.{⊤}
-use Rattle.disk_model.specs.declared.disk.DiskFault.{DiskFault}
-use Rattle.client_notes.specs.Answers.{Noting, fresh_task}
-use Rattle.client_notes.specs.Command.{NotesCommand, start}
-use Rattle.client_notes.specs.Notes.{task_count}
-use Rattle.client_notes.specs.State.{NotesState}
 use Rattle.client_notes.specs.declared.refusals.NotesRefusal.TheVariants as refusal
+use Rattle.client_notes.proofs.Names.{⊤, DiskFault, Noting, fresh_task, NotesCommand, start, task_count, NotesState}
 use Rattle.client_notes.proofs.KeptLemmas.{brought-cut, brought-done}
 use Rattle.client_notes.proofs.notes.Notes.begin.Goals as goal
 

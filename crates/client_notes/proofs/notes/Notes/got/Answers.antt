@@ -1,10 +1,6 @@
 use Rattle.std.proofs.Common.{Err, Ok, subst, inl, refl}
-use Rattle.std.specs.Prelude.{⊤}
-use Rattle.disk_model.specs.declared.disk.DiskFault.{DiskFault}
-use Rattle.client_notes.specs.Answers.{Noting}
-use Rattle.client_notes.specs.Command.{got}
-use Rattle.client_notes.specs.State.{NotesState}
 use Rattle.client_notes.specs.declared.refusals.NotesRefusal.TheVariants as refusal
+use Rattle.client_notes.proofs.Names.{⊤, DiskFault, Noting, got, NotesState}
 use Rattle.client_notes.proofs.KeptLemmas.{brought-cut, brought-done}
 use Rattle.client_notes.proofs.notes.Notes.got.Goals as goal
 

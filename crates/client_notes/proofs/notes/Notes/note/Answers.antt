@@ -1,11 +1,6 @@
 use Rattle.std.proofs.Common.{◌≡◌, Err, Ok, refl, sym, ◌∙◌, ap, subst, inl}
-use Rattle.std.proofs.lemmas.Result.{err_from_is_err_and}
-use Rattle.std.specs.Prelude.{⊤}
 use Rattle.file_journal.specs.declared.faults.JournalFault.TheVariants as fault
-use Rattle.disk_model.specs.declared.disk.DiskFault.{DiskFault}
-use Rattle.client_notes.specs.Commands.{command_value}
-use Rattle.client_notes.specs.OnDisk.{Answers}
-use Rattle.client_notes.specs.State.{NotesState}
+use Rattle.client_notes.proofs.Names.{err_from_is_err_and, ⊤, DiskFault, command_value, Answers, NotesState}
 use Rattle.client_notes.proofs.KeptLemmas.{put-answers}
 use Rattle.client_notes.proofs.notes.Notes.note.Goals as goal
 

@@ -1,5 +1,5 @@
 use Rattle.std.proofs.Common.{Err, ◌∙◌, ap}
-use Rattle.std.proofs.lemmas.Result.{err_from_is_err_and}
+use Rattle.client_notes.proofs.Names.{err_from_is_err_and}
 use Rattle.client_notes.proofs.KeptLemmas.{answers-err, answers-ok}
 use Rattle.client_notes.proofs.notes.Notes.recover.Goals as goal
 

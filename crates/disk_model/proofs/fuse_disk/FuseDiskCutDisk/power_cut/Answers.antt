@@ -1,6 +1,6 @@
 use Rattle.std.proofs.Common.{◌≡◌, ⊎_elim, ◌+◌, ℕ, true, false, refl, sym, ◌∙◌, ap}
-use Rattle.disk_model.specs.Memory.{state}
 use Rattle.disk_model.specs.declared.fuse_disk.FuseStage.TheVariants as stage
+use Rattle.disk_model.proofs.Names.{state}
 use Rattle.disk_model.proofs.Armed.{cut_keeps}
 use Rattle.disk_model.proofs.fuse_disk.FuseDiskCutDisk.power_cut.Goals as goal
 

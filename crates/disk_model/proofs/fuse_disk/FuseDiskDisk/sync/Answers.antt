@@ -1,10 +1,6 @@
 use Rattle.std.proofs.Common.{◌≡◌, ◌∙◌, ⊎_elim, inr, Some, ap, refl, subst, sym, arith, rules}
-use Rattle.disk_model.specs.Calls.{DiskState, content_of, images_of, images_since_of, moment_of}
-use Rattle.disk_model.specs.Fuse.{FuseState, IsTornNext, arming_in, fuse}
-use Rattle.disk_model.specs.Memory.{state}
-use Rattle.disk_model.specs.Moments.{SameImages, SamePast}
-use Rattle.disk_model.specs.Surface.{IsImage, Surface}
 use Rattle.disk_model.specs.declared.fuse_disk.FuseStage.TheVariants as stage
+use Rattle.disk_model.proofs.Names.{DiskState, content_of, images_of, images_since_of, moment_of, FuseState, IsTornNext, arming_in, fuse, state, SameImages, SamePast, IsImage, Surface}
 use Rattle.disk_model.proofs.Armed.{fails_lasts, passes_lasts, syncing_fails, syncing_lasts}
 use Rattle.disk_model.proofs.Steps.{cause_of_sum, failing_at_most, failing_down, failing_elapses, failing_leaves_now, failing_starves, failing_surface}
 use Rattle.disk_model.proofs.fuse_disk.FuseDiskDisk.sync.Goals.{in_default-via-in-Passes+else-left-gt0, in_default-via-in_default}

@@ -1,12 +1,6 @@
 use Rattle.std.proofs.Common.{◌≡◌, ◌⊎◌, inl, inr, ⊎_elim, ℕ, ◌+◌, ◌-◌, ◌^◌, ◌<◌, length, true, sym, ◌∙◌, ap, subst, arith, rules}
-use Rattle.std.proofs.lemmas.Bool.{cases_lt}
-use Rattle.std.proofs.lemmas.Grind.{common_steps}
-use Rattle.disk_model.specs.Calls.{DiskState}
-use Rattle.disk_model.specs.Cuts.{Failed}
-use Rattle.disk_model.specs.Fuse.{FuseState, IsTornNext, arming_in, fuse}
-use Rattle.disk_model.specs.Memory.{state}
-use Rattle.disk_model.specs.MemoryLaws.{content_is_image}
 use Rattle.disk_model.specs.declared.fuse_disk.FuseStage.TheVariants as stage
+use Rattle.disk_model.proofs.Names.{cases_lt, common_steps, DiskState, Failed, FuseState, IsTornNext, arming_in, fuse, state, content_is_image}
 use Rattle.disk_model.proofs.Armed.{FailsAt, fails_lasts, passes_lasts, starved_fails, tearing_fails, unarmed_lasts, writing_lasts}
 use Rattle.disk_model.proofs.Steps.{Opens, Untouched, cause_of_sum, elapses_either, follows_either, kept_either, leaves_now_either, leaves_open_either, tearing_opens}
 use Rattle.disk_model.proofs.fuse_disk.FuseDiskDisk.write_at.Goals.{in_default-via-in-Passes+else-left-gt0, in_default-via-in_default}

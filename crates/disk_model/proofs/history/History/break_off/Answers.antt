@@ -1,7 +1,5 @@
 use Rattle.std.proofs.Common.{List, ℕ, false, sym, refl, subst, arith}
-use Rattle.std.proofs.lemmas.Grind.{common_steps}
-use Rattle.disk_model.specs.Undone.{Undoes}
-use Rattle.disk_model.specs.declared.open_write.OpenWrite.{OpenWrite}
+use Rattle.disk_model.proofs.Names.{common_steps, Undoes, OpenWrite}
 use Rattle.disk_model.proofs.BeforeWrites.{undoes_torn}
 use Rattle.disk_model.proofs.history.History.break_off.Goals as goal
 

@@ -1,11 +1,5 @@
 use Rattle.std.proofs.Common.{List, ◌≡◌, ◌≤◌, ◌^◌, [], ◌∷◌, ◌++◌, ℕ, length, take, drop, sym, ◌∙◌, ap, subst, arith}
-use Rattle.std.proofs.lemmas.Grind.{common_steps}
-use Rattle.disk_model.specs.Crash.{IsCrash}
-use Rattle.disk_model.specs.Open.{inside_of}
-use Rattle.disk_model.specs.Surface.{IsImage, Surface, quiet_surface, surface_after, surface_after_call}
-use Rattle.disk_model.specs.Told.{cut_by}
-use Rattle.disk_model.specs.Undone.{StandsOpen, calls_of, standing_open, synced_before}
-use Rattle.disk_model.specs.declared.open_write.OpenWrite.{OpenWrite}
+use Rattle.disk_model.proofs.Names.{common_steps, IsCrash, inside_of, IsImage, Surface, quiet_surface, surface_after, surface_after_call, cut_by, StandsOpen, calls_of, standing_open, synced_before, OpenWrite}
 use Rattle.disk_model.proofs.BeforeWrites.{stands_open, synced_so, undoes_now}
 use Rattle.disk_model.proofs.Ranges.{CutLeft, cut_left, quiet_image}
 use Rattle.disk_model.proofs.Surfaces.{surface_after-push}

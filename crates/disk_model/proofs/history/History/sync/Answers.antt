@@ -1,5 +1,5 @@
 use Rattle.std.proofs.Common.{List, ℕ, sym, subst}
-use Rattle.disk_model.specs.Undone.{Undoes}
+use Rattle.disk_model.proofs.Names.{Undoes}
 use Rattle.disk_model.proofs.BeforeWrites.{undoes_failed_sync}
 use Rattle.disk_model.proofs.history.History.sync.Goals as goal
 

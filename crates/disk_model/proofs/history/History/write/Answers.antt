@@ -1,9 +1,6 @@
 use Rattle.std.proofs.Common.{◌≡◌, ◌++◌, List, ℕ, true, length, ◌∙◌, ap, sym, refl, subst, arith}
-use Rattle.std.proofs.lemmas.Grind.{common_steps}
-use Rattle.disk_model.specs.Surface.{IsImage, Surface, with_range, surface_after, surface_after_call, write_over}
-use Rattle.disk_model.specs.Undone.{Undoes, found_by}
 use Rattle.disk_model.specs.declared.disk_call.DiskCall.TheVariants as call
-use Rattle.disk_model.specs.declared.open_write.OpenWrite.{OpenWrite}
+use Rattle.disk_model.proofs.Names.{common_steps, IsImage, Surface, with_range, surface_after, surface_after_call, write_over, Undoes, found_by, OpenWrite}
 use Rattle.disk_model.proofs.BeforeWrites.{undoes_write}
 use Rattle.disk_model.proofs.Surfaces.{surface_after-push, images_of_other_content, written_leaves}
 use Rattle.disk_model.proofs.Writes.{octets_from_fits}

@@ -1,8 +1,5 @@
 use Rattle.std.proofs.Common.{◌≡◌, ◌↔◌, ◌+◌, [], sym, ◌∙◌, ap, subst, arith}
-use Rattle.std.proofs.lemmas.Grind.{common_steps}
-use Rattle.disk_model.specs.Calls.{images_since_of, moment_of}
-use Rattle.disk_model.specs.Fuse.{FuseState, fuse, images_since, starved_fuse}
-use Rattle.disk_model.specs.Moments.{SamePast}
+use Rattle.disk_model.proofs.Names.{common_steps, images_since_of, moment_of, FuseState, fuse, images_since, starved_fuse, SamePast}
 use Rattle.disk_model.proofs.log_disk.LogDiskCutDisk.power_cut.Goals as goal
 
 -- no memory was found for what was left

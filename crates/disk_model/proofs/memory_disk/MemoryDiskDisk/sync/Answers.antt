@@ -1,6 +1,5 @@
 use Rattle.std.proofs.Common.{arith, rules}
-use Rattle.std.proofs.lemmas.Grind.{common_steps}
-use Rattle.disk_model.specs.Memory.{state}
+use Rattle.disk_model.proofs.Names.{common_steps, state}
 use Rattle.disk_model.proofs.Steps.{syncing_elapses, syncing_leaves_now, syncing_leaves_only}
 use Rattle.disk_model.proofs.memory_disk.MemoryDiskDisk.sync.Goals as goal
 

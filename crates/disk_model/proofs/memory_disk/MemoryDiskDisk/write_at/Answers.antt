@@ -1,7 +1,5 @@
 use Rattle.std.proofs.Common.{◌≡◌, ◌⊎◌, ⊎_elim, ◌+◌, ◌^◌, ◌<◌, length, true, arith, rules}
-use Rattle.std.proofs.lemmas.Grind.{common_steps}
-use Rattle.disk_model.specs.Memory.{state}
-use Rattle.disk_model.specs.MemoryLaws.{content_is_image}
+use Rattle.disk_model.proofs.Names.{common_steps, state, content_is_image}
 use Rattle.disk_model.proofs.Steps.{Opens, Untouched, elapses_either, follows_either, kept_either, leaves_now_either, leaves_open_either, writing_opens, writing_writes}
 use Rattle.disk_model.proofs.memory_disk.MemoryDiskDisk.write_at.Goals as goal
 

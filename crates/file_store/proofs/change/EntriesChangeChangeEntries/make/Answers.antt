@@ -1,7 +1,5 @@
 use Rattle.std.proofs.Common.{[], subst}
-use Rattle.file_journal.specs.Layout.{Blocks}
-use Rattle.file_store.specs.Changes.{HasFor}
-use Rattle.file_store.specs.declared.change.EntriesChange.{EntriesChange}
+use Rattle.file_store.proofs.Names.{Blocks, HasFor, EntriesChange}
 use Rattle.file_store.proofs.change.EntriesChangeChangeEntries.make.Goals as goal
 
 pub begin-requires : goal.begin-requires

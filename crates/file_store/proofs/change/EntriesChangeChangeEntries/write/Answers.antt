@@ -1,7 +1,5 @@
 use Rattle.std.proofs.Common.{◌∙◌, ap, subst}
-use Rattle.block_entries.specs.PlacedCommand.{PlacedCommand}
-use Rattle.block_entries.specs.PlacedRecords.{IsWritable, record_of_placed}
-use Rattle.file_journal.specs.Records.{record_of}
+use Rattle.file_store.proofs.Names.{PlacedCommand, IsWritable, record_of_placed, record_of}
 use Rattle.file_store.proofs.TurnLemmas.{turn-written}
 use Rattle.file_store.proofs.change.EntriesChangeChangeEntries.write.Goals as goal
 

@@ -1,9 +1,5 @@
 use Rattle.std.proofs.Common.{◌≡◌, ℕ, ◌+◌, ◌*◌, ◌/◌, true, false, length, None, Some, sym, ◌∙◌, ap, subst, arith}
-use Rattle.block_entries.specs.PlacedFiles.{ChangesRest, octets_or_none}
-use Rattle.file_entries.specs.Command.{unfilled_block, whole_grows}
-use Rattle.file_store.specs.OnDisk.{DoesTo}
-use Rattle.file_store.specs.State.{StoreState, rest_in, state_from}
-use Rattle.file_store.specs.Upload.{Holds, Upload, appended, appending, waiting_with}
+use Rattle.file_store.proofs.Names.{ChangesRest, octets_or_none, unfilled_block, whole_grows, DoesTo, StoreState, rest_in, state_from, Holds, Upload, appended, appending, waiting_with}
 use Rattle.file_store.proofs.HoldLemmas.{DoesTo-to}
 use Rattle.file_store.proofs.TokenLemmas.{holds-each}
 use Rattle.file_store.proofs.UploadLemmas.{appended-holds, appending-are, blocks-come, bytes-fit, does-keeps, keeps-parked}

@@ -1,21 +1,6 @@
 use Rattle.std.proofs.Common.{◌≡◌, ℕ, true, false, [], ◌∷◌, IsErr, None, Some, is_some, refl, sym, ◌∙◌, ap, subst, arith, rules}
-use Rattle.block_entries.specs.Outlined.{outlined}
-use Rattle.block_entries.specs.Placed.{PlacedStore, new_placed, placed_of}
-use Rattle.block_entries.specs.PlacedCommand.{with_new}
-use Rattle.block_entries.specs.PlacedFiles.{KeepsRests, PlacedFiles, rest_of, store_of}
-use Rattle.block_entries.proofs.Offered.{new_is_found, none_past, outlined_new, outlined_rules}
-use Rattle.px_base.specs.CallSign.{CallSign}
-use Rattle.file_entries.specs.Command.{Command, after, begin}
-use Rattle.file_entries.specs.IsStore.{IsStore}
-use Rattle.file_entries.specs.Kept.{KeepsComplete}
-use Rattle.file_entries.specs.Store.{Store}
-use Rattle.file_entries.proofs.Offered.{begin-KeepsComplete}
-use Rattle.file_store.specs.Answers.{RefusesBegin}
-use Rattle.file_store.specs.OnDisk.{Does}
-use Rattle.file_store.specs.State.{StoreState, placed_in, rest_in, state_from, store_in}
-use Rattle.file_store.specs.Upload.{Holds, Upload, new_upload}
-use Rattle.file_store.specs.declared.refusals.BeginRefusal.{BeginRefusal}
 use Rattle.file_store.specs.declared.refusals.BeginRefusal.TheVariants as refusal
+use Rattle.file_store.proofs.Names.{outlined, PlacedStore, new_placed, placed_of, with_new, KeepsRests, PlacedFiles, rest_of, store_of, new_is_found, none_past, outlined_new, outlined_rules, CallSign, Command, after, begin, IsStore, KeepsComplete, Store, begin-KeepsComplete, RefusesBegin, Does, StoreState, placed_in, rest_in, state_from, store_in, Holds, Upload, new_upload, BeginRefusal}
 use Rattle.file_store.proofs.DoesLemmas.{Does-moved, Does-same}
 use Rattle.file_store.proofs.OnLemmas.{in_parked, stands_parked}
 use Rattle.file_store.proofs.PutLemmas.{begin-barred, begin-may, none-may, refused-as}

@@ -1,6 +1,5 @@
 use Rattle.std.proofs.Common.{subst}
-use Rattle.file_store.specs.Ending.{LeavesOthers}
-use Rattle.file_store.specs.State.{StoreState, state_from}
+use Rattle.file_store.proofs.Names.{LeavesOthers, StoreState, state_from}
 use Rattle.file_store.proofs.PutLemmas.{err-files}
 use Rattle.file_store.proofs.SealLemmas.{put-dropped}
 use Rattle.file_store.proofs.file_store.FileStore.drop_entry.Goals as goal

@@ -1,8 +1,5 @@
 use Rattle.std.proofs.Common.{◌≤◌, Err, refl, sym, ap, subst}
-use Rattle.std.specs.Prelude.{IfSome, IsSome}
-use Rattle.block_entries.specs.Checking.{ChecksFile, HasFault}
-use Rattle.block_entries.specs.Placed.{placed_of}
-use Rattle.file_store.specs.State.{IsReady, StoreState, placed_in}
+use Rattle.file_store.proofs.Names.{IfSome, IsSome, ChecksFile, HasFault, placed_of, IsReady, StoreState, placed_in}
 use Rattle.file_store.proofs.SealLemmas.{ends-cut, ends-doubtful, ends-dropped, ends-err, ends-partial, ends-sealed, ends-takes, ends-there, ends-uncertain, ends-unread}
 use Rattle.file_store.proofs.file_store.FileStore.end_file.Goals as goal
 

@@ -1,7 +1,5 @@
 use Rattle.std.proofs.Common.{◌≡◌, refl, sym, ◌∙◌, rules}
-use Rattle.file_entries.specs.Store.{octets_of}
-use Rattle.file_entries.proofs.Offered.{told}
-use Rattle.file_store.specs.State.{store_in}
+use Rattle.file_store.proofs.Names.{octets_of, told, store_in}
 use Rattle.file_store.proofs.ToldLemmas.{has-told, told-count, told-entry}
 use Rattle.file_store.proofs.file_store.FileStore.has_entry.Goals as goal
 

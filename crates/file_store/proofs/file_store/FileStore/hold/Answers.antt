@@ -1,11 +1,6 @@
 use Rattle.std.proofs.Common.{◌≡◌, [], ◌∷◌, IsErr, sym, ◌∙◌, ap, subst}
-use Rattle.block_entries.specs.PlacedFiles.{EntriesState, IsLowest, octets_or_none, store_of}
-use Rattle.file_entries.specs.Command.{grow}
-use Rattle.file_store.specs.Changes.{MayMake}
-use Rattle.file_store.specs.OnDisk.{DoesTo}
-use Rattle.file_store.specs.State.{IsReady, StoreState, rest_in, state_from}
-use Rattle.file_store.specs.Upload.{FillsBlock}
 use Rattle.file_store.specs.declared.change.EntriesChange.TheVariants as change
+use Rattle.file_store.proofs.Names.{EntriesState, IsLowest, octets_or_none, store_of, grow, MayMake, DoesTo, IsReady, StoreState, rest_in, state_from, FillsBlock}
 use Rattle.file_store.proofs.PutLemmas.{err-files, fills-lacks, fills-may, hold-does}
 use Rattle.file_store.proofs.file_store.FileStore.hold.Goals as goal
 

@@ -1,9 +1,5 @@
 use Rattle.std.proofs.Common.{◌≡◌, List, ℕ, [], ◌∷◌, length, take, true, false, IsErr, Option, refl, ◌∙◌, ap, subst, rules}
-use Rattle.block_entries.specs.PlacedFiles.{ChangesRest, octets_or_none, rest_with}
-use Rattle.file_entries.specs.Command.{grow}
-use Rattle.file_store.specs.OnDisk.{DoesTo}
-use Rattle.file_store.specs.State.{StoreState, rest_in, state_from}
-use Rattle.file_store.specs.Upload.{waiting_with}
+use Rattle.file_store.proofs.Names.{ChangesRest, octets_or_none, rest_with, grow, DoesTo, StoreState, rest_in, state_from, waiting_with}
 use Rattle.file_store.proofs.HoldLemmas.{DoesTo-from, DoesTo-same, block-fills, block-waits, later-fits, later-is}
 use Rattle.file_store.proofs.file_store.FileStore.hold_block.Goals as goal
 

@@ -1,9 +1,5 @@
 use Rattle.std.proofs.Common.{◌≡◌, true, false, ℕ, List, [], ◌∷◌, ◌++◌, ◌*◌, ◌-◌, length, drop, Option, Some, is_some, take, IsErr, refl, ◌∙◌, ap, subst, arith, rules, length-append, length-drop}
-use Rattle.block_entries.specs.PlacedFiles.{ChangesRest, octets_or_none, rest_with}
-use Rattle.file_entries.specs.Command.{Command, grow, grows, whole_grows}
-use Rattle.file_store.specs.OnDisk.{DoesTo}
-use Rattle.file_store.specs.State.{StoreState, rest_in, state_from}
-use Rattle.file_store.specs.Upload.{waiting_with}
+use Rattle.file_store.proofs.Names.{ChangesRest, octets_or_none, rest_with, Command, grow, grows, whole_grows, DoesTo, StoreState, rest_in, state_from, waiting_with}
 use Rattle.file_store.proofs.HoldLemmas.{DoesTo-none, DoesTo-same, DoesTo-then, DoesTo-to, all-later, block-there, blocks-cut, brought-waits, left-later, one-more}
 use Rattle.file_store.proofs.file_store.FileStore.hold_blocks.Goals as goal
 

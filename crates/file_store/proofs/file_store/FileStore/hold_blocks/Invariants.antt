@@ -1,7 +1,5 @@
 use Rattle.std.proofs.Common.{◌≡◌, ◌*◌, drop}
-use Rattle.file_entries.specs.Command.{grows}
-use Rattle.file_store.specs.OnDisk.{DoesTo}
-use Rattle.file_store.specs.Upload.{FitsBytes, waiting_with}
+use Rattle.file_store.proofs.Names.{grows, DoesTo, FitsBytes, waiting_with}
 use Rattle.file_store.proofs.file_store.FileStore.hold_blocks.Given as goal
 
 abbrev pub invariant-loop-block : goal.invariant-loop-block

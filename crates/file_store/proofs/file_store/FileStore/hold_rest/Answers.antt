@@ -1,8 +1,5 @@
 use Rattle.std.proofs.Common.{◌≡◌, true, false, List, length, IsErr, sym, ◌∙◌, ap, subst, arith}
-use Rattle.file_entries.specs.Command.{Command}
-use Rattle.block_entries.specs.PlacedFiles.{octets_or_none}
-use Rattle.file_store.specs.OnDisk.{DoesTo}
-use Rattle.file_store.specs.State.{StoreState, rest_in}
+use Rattle.file_store.proofs.Names.{Command, octets_or_none, DoesTo, StoreState, rest_in}
 use Rattle.file_store.proofs.SealLemmas.{rest-grow, rest-none}
 use Rattle.file_store.proofs.UploadLemmas.{whole-fills}
 use Rattle.file_store.proofs.file_store.FileStore.hold_rest.Goals as goal

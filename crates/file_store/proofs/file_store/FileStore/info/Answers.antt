@@ -1,11 +1,5 @@
 use Rattle.std.proofs.Common.{◌∙◌, ap, subst}
-use Rattle.std.specs.Option.{option_map}
-use Rattle.block_entries.specs.PlacedFiles.{store_of}
-use Rattle.block_entries.proofs.Offered.{outlined_rules}
-use Rattle.file_entries.specs.Info.{info_of}
-use Rattle.file_entries.specs.IsStore.{IsStore}
-use Rattle.file_entries.specs.Store.{entry_of}
-use Rattle.file_store.specs.State.{StoreState, store_in}
+use Rattle.file_store.proofs.Names.{option_map, store_of, outlined_rules, info_of, IsStore, entry_of, StoreState, store_in}
 use Rattle.file_store.proofs.ToldLemmas.{shown-info}
 use Rattle.file_store.proofs.file_store.FileStore.info.Goals as goal
 

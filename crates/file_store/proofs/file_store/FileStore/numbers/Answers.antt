@@ -1,8 +1,5 @@
 use Rattle.std.proofs.Common.{subst}
-use Rattle.block_entries.specs.PlacedFiles.{store_of}
-use Rattle.block_entries.proofs.Offered.{outlined_next}
-use Rattle.file_entries.specs.Info.{IsNextComplete}
-use Rattle.file_store.specs.State.{StoreState, store_in}
+use Rattle.file_store.proofs.Names.{store_of, outlined_next, IsNextComplete, StoreState, store_in}
 use Rattle.file_store.proofs.file_store.FileStore.numbers.Goals as goal
 
 pub returns : goal.returns

@@ -1,9 +1,5 @@
 use Rattle.std.proofs.Common.{◌≡◌, true, false, [], Some, sym, ◌∙◌, ap, subst, arith, rules}
-use Rattle.block_entries.specs.PlacedFiles.{store_of}
-use Rattle.file_entries.specs.Store.{entry_of}
-use Rattle.file_entries.proofs.Offered.{told, told-held}
-use Rattle.file_store.specs.State.{StoreState, rest_in, store_in}
-use Rattle.file_store.specs.Upload.{Holds, Upload}
+use Rattle.file_store.proofs.Names.{store_of, entry_of, told, told-held, StoreState, rest_in, store_in, Holds, Upload}
 use Rattle.file_store.proofs.OnLemmas.{in_parked}
 use Rattle.file_store.proofs.TokenLemmas.{placed-there}
 use Rattle.file_store.proofs.ToldLemmas.{told-caller, told-complete, told-holds, told-length, told-short, told-upload}

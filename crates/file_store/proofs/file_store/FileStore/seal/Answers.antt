@@ -1,11 +1,6 @@
 use Rattle.std.proofs.Common.{◌≡◌, ℕ, Ok, Err, None, refl, sym, ◌∙◌, ap, subst, arith, rules}
-use Rattle.block_entries.specs.PlacedFiles.{Becomes, store_of}
-use Rattle.file_journal.proofs.Offered.{puts_among, puts_none}
-use Rattle.file_store.specs.Ending.{EndsFile, LeavesOthers}
-use Rattle.file_store.specs.Laws.{HoldsInEach}
-use Rattle.file_store.specs.State.{StoreState, placed_in, state_from}
-use Rattle.file_store.specs.Upload.{Holds, Upload, held_whole}
 use Rattle.file_store.specs.declared.end.End.TheVariants as end
+use Rattle.file_store.proofs.Names.{Becomes, store_of, puts_among, puts_none, EndsFile, LeavesOthers, HoldsInEach, StoreState, placed_in, state_from, Holds, Upload, held_whole}
 use Rattle.file_store.proofs.OnLemmas.{stands_parked}
 use Rattle.file_store.proofs.OrderLemmas.{seals-bad, seals-cut, seals-good, seals-known, seals-unread}
 use Rattle.file_store.proofs.SealLemmas.{leaves-keeps, leaves-then, parked-leaves}

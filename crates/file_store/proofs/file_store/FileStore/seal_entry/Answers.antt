@@ -1,8 +1,5 @@
 use Rattle.std.proofs.Common.{sym, subst}
-use Rattle.block_entries.specs.PlacedCommand.{seal_with}
-use Rattle.block_entries.specs.TestLaws.{TakesSeal}
-use Rattle.file_store.specs.Ending.{LeavesOthers}
-use Rattle.file_store.specs.State.{StoreState, placed_in, state_from}
+use Rattle.file_store.proofs.Names.{seal_with, TakesSeal, LeavesOthers, StoreState, placed_in, state_from}
 use Rattle.file_store.proofs.PutLemmas.{err-files}
 use Rattle.file_store.proofs.SealLemmas.{put-sealed}
 use Rattle.file_store.proofs.file_store.FileStore.seal_entry.Goals as goal

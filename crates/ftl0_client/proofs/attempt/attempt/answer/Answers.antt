@@ -1,13 +1,8 @@
 -- A packet that is whole is taken by its row, and its replies are queued or lost.
 use Rattle.std.proofs.Common.{◌≡◌, false, [], ◌∷◌, rules, subst}
-use Rattle.std.specs.Prelude.{is_some}
-use Rattle.ftl0_packets.specs.Layout.{Item}
 use Rattle.ftl0_packets.specs.Values.{item_of}
-use Rattle.ftl0_job.proofs.Offered.{ending-none}
-use Rattle.ftl0_client.specs.Attempt.AttemptState.{working}
-use Rattle.ftl0_client.specs.Attempt.Feeding.{Takes}
+use Rattle.ftl0_client.proofs.Names.{is_some, Item, ending-none, working, Takes, Several-none}
 use Rattle.ftl0_client.proofs.attempt.AnswerLemmas.{takes-answered}
-use Rattle.client_notes.proofs.Offered.{Several-none}
 use Rattle.ftl0_client.proofs.attempt.attempt.answer.Goals as goal
 
 pub returns-clause-answers : goal.returns-clause-answers

@@ -1,12 +1,6 @@
 -- A packet that is found is answered, and the loop stops where that stops.
 use Rattle.std.proofs.Common.{◌≡◌, ◌++◌, ℕ, List, Err, rules, sym, subst}
-use Rattle.std.specs.Prelude.{Result, ⊤}
-use Rattle.ax25_link.specs.Kept.{Kept}
-use Rattle.ftl0_packets.specs.Reading.{read_item, under_way}
-use Rattle.packet_link.specs.PacketLink.{octets_in}
-use Rattle.disk_model.specs.declared.halt.Halt.{Halt}
-use Rattle.ftl0_client.specs.Attempt.AttemptState.{working}
-use Rattle.ftl0_client.specs.Attempt.Feeding.{TakesOctetsBy}
+use Rattle.ftl0_client.proofs.Names.{Result, ⊤, Kept, read_item, under_way, octets_in, Halt, working, TakesOctetsBy}
 use Rattle.ftl0_client.proofs.attempt.FeedLemmas.{taking-next, taking-start, taking-stops}
 use Rattle.ftl0_client.proofs.attempt.Invariants.{IsTaking}
 use Rattle.ftl0_client.proofs.attempt.attempt.take_packets.Goals as goal

@@ -1,7 +1,6 @@
 -- Packets were taken from the octets as they were to those that are left.
 use Rattle.std.proofs.Common.{◌++◌, length}
-use Rattle.packet_link.specs.PacketLink.{octets_in}
-use Rattle.ftl0_client.specs.Attempt.AttemptState.{working}
+use Rattle.ftl0_client.proofs.Names.{octets_in, working}
 use Rattle.ftl0_client.proofs.attempt.Invariants.{IsTaking}
 use Rattle.ftl0_client.proofs.attempt.attempt.take_packets.Given as goal
 

@@ -1,11 +1,7 @@
 -- A station with which there is no link is answered, and nothing is noted.
 use Rattle.std.proofs.Common.{rules, [], ◌≡◌, ap, ◌∙◌, subst, sym}
-use Rattle.ftl0_client.specs.ClientState.{ClientState, MayHear}
-use Rattle.ftl0_client.specs.Inside.{client_state}
+use Rattle.ftl0_client.proofs.Names.{ClientState, MayHear, client_state, Several-none, DoesSeveral, NotesState}
 use Rattle.ftl0_client.proofs.KeptLemmas.{may-kept}
-use Rattle.client_notes.proofs.Offered.{Several-none}
-use Rattle.client_notes.specs.Several.{DoesSeveral}
-use Rattle.client_notes.specs.State.{NotesState}
 use Rattle.ftl0_client.proofs.client.Client.hear.Goals as goal
 
 pub returns-then-not-is_from-clause-may : goal.returns-then-not-is_from-clause-may

@@ -1,10 +1,6 @@
 -- Its attempt, if there is one, stands for some attempt.
 use Rattle.std.proofs.Common.{◌≡◌, None, Some, sym, ◌∙◌, subst}
-use Rattle.std.proofs.lemmas.Option.{same_Some}
-use Rattle.ftl0_client.specs.Attempt.AttemptState.{IsSomeAttempt}
-use Rattle.ftl0_client.specs.Client.{Client}
-use Rattle.ftl0_client.specs.ClientState.{ClientState, IsClient}
-use Rattle.ftl0_client.specs.Inside.{client_state}
+use Rattle.ftl0_client.proofs.Names.{same_Some, IsSomeAttempt, Client, ClientState, IsClient, client_state}
 use Rattle.ftl0_client.proofs.SomeLemmas.{some-client}
 use Rattle.ftl0_client.proofs.client.Client.some_law.Goals as goal
 

@@ -1,7 +1,6 @@
 -- What the next event needs stays when a task is started.
 use Rattle.std.proofs.Common.{subst}
-use Rattle.ftl0_client.specs.ClientState.{ClientState, MayHear}
-use Rattle.ftl0_client.specs.Inside.{client_state}
+use Rattle.ftl0_client.proofs.Names.{ClientState, MayHear, client_state}
 use Rattle.ftl0_client.proofs.KeptLemmas.{started-goes}
 use Rattle.ftl0_client.proofs.StartLemmas.{start-gives}
 use Rattle.ftl0_client.proofs.client.Client.start_task.Goals as goal

@@ -1,9 +1,7 @@
 -- The attempt, if there is one, ticks.
 use Rattle.std.proofs.Common.{subst, sym}
-use Rattle.ftl0_client.specs.Client.{client_ticking}
-use Rattle.ftl0_client.specs.ClientState.{ClientState, IsClient}
 use Rattle.ftl0_client.specs.declared.client.Client.TheInside.{Inside}
-use Rattle.ftl0_client.specs.Inside.{client_state}
+use Rattle.ftl0_client.proofs.Names.{client_ticking, ClientState, IsClient, client_state}
 use Rattle.ftl0_client.proofs.TickLemmas.{ticked-none, ticked-some}
 use Rattle.ftl0_client.proofs.client.Client.tick.Goals as goal
 use Rattle.ftl0_client.proofs.client.Client.tick.Goals.{in-Some, in_default}

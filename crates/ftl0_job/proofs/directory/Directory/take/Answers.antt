@@ -1,10 +1,7 @@
 -- The row by how far the list has come.
 use Rattle.std.proofs.Common.{sym, ◌∙◌, ap, subst}
-use Rattle.ftl0_packets.specs.Values.{value_of}
 use Rattle.ftl0_job.specs.declared.phases.DirectoryPhase.TheVariants as phase
-use Rattle.ftl0_job.specs.Directory.{Directory}
-use Rattle.ftl0_job.specs.Row.{Row}
-use Rattle.ftl0_job.specs.Taking.{AnswersAlone, Gives}
+use Rattle.ftl0_job.proofs.Names.{value_of, Directory, Row, AnswersAlone, Gives}
 use Rattle.ftl0_job.proofs.RowLemmas.{directory-in}
 use Rattle.ftl0_job.proofs.directory.Directory.take.Goals as goal
 

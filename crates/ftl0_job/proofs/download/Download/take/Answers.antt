@@ -1,11 +1,7 @@
 -- The row by how far the download has come.
 use Rattle.std.proofs.Common.{ℕ, List, Ok, sym, ◌∙◌, ap, subst}
-use Rattle.ftl0_packets.specs.Values.{value_of}
-use Rattle.client_notes.specs.Notes.{got_of}
 use Rattle.ftl0_job.specs.declared.phases.DownloadPhase.TheVariants as phase
-use Rattle.ftl0_job.specs.Download.{Download, done_row, login_row}
-use Rattle.ftl0_job.specs.Row.{Row}
-use Rattle.ftl0_job.specs.Taking.{Gives, TakesRow, with_notes}
+use Rattle.ftl0_job.proofs.Names.{value_of, got_of, Download, done_row, login_row, Row, Gives, TakesRow, with_notes}
 use Rattle.ftl0_job.proofs.NotingLemmas.{takes-still}
 use Rattle.ftl0_job.proofs.RowLemmas.{done-silent, download-in, fetch-silent}
 use Rattle.ftl0_job.proofs.download.Download.take.Goals as goal

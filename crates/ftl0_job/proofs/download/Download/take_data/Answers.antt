@@ -1,14 +1,6 @@
 -- Each whole 512 octets are noted.
 use Rattle.std.proofs.Common.{◌≡◌, [], ◌++◌, rules, sym, subst, refl, arith}
-use Rattle.std.proofs.lemmas.Grind.{common_steps}
-use Rattle.std.specs.Prelude.{⊤, Option, Some, Result, Ok, Err}
-use Rattle.client_notes.specs.Notes.{got_of}
-use Rattle.ftl0_job.specs.declared.ending.Ending.{Ending}
-use Rattle.disk_model.specs.declared.halt.Halt.{Halt}
-use Rattle.ftl0_job.specs.Download.{Download, data_row, unnoted, whole_gots, with_rest}
-use Rattle.ftl0_job.specs.Noting.{HasNoted}
-use Rattle.ftl0_job.specs.Row.{Row, goes_on, strange}
-use Rattle.ftl0_job.specs.Taking.{Gives, TakesRow, with_notes}
+use Rattle.ftl0_job.proofs.Names.{common_steps, ⊤, Option, Some, Result, Ok, Err, got_of, Ending, Halt, Download, data_row, unnoted, whole_gots, with_rest, HasNoted, Row, goes_on, strange, Gives, TakesRow, with_notes}
 use Rattle.ftl0_job.proofs.NotingLemmas.{noted-none}
 use Rattle.ftl0_job.proofs.download.Download.take_data.Goals as goal
 

@@ -1,14 +1,8 @@
 -- The rest is noted, and the whole checked.
 use Rattle.std.proofs.Common.{◌≡◌, ℕ, List, [], Ok, None, Some, rules, sym, ◌∙◌, ap, subst}
-use Rattle.std.specs.Prelude.{⊤, Option, Result, Err}
-use Rattle.pfh_items.specs.Faults.{fault_code}
-use Rattle.client_notes.specs.Notes.{got_of}
-use Rattle.ftl0_job.specs.declared.ending.Ending.{Ending}
 use Rattle.ftl0_job.specs.declared.phases.DownloadPhase.TheVariants as phase
-use Rattle.disk_model.specs.declared.halt.Halt.{Halt}
-use Rattle.ftl0_job.specs.Download.{Download, data_end_row, in_phase, with_rest}
-use Rattle.ftl0_job.specs.JobState.{HasGot}
-use Rattle.ftl0_job.specs.Taking.{TakesRow, with_notes}
+use Rattle.ftl0_job.specs.Download.{in_phase}
+use Rattle.ftl0_job.proofs.Names.{⊤, Option, Result, Err, fault_code, got_of, Ending, Halt, Download, data_end_row, with_rest, HasGot, TakesRow, with_notes}
 use Rattle.ftl0_job.proofs.EndLemmas.{end-bad, end-bad-stopped, end-good, end-stopped}
 use Rattle.ftl0_job.proofs.download.Download.take_end.Goals as goal
 

@@ -1,6 +1,5 @@
 use Rattle.std.proofs.Common.{rules}
-use Rattle.ftl0_job.specs.Due.{PutsDue, next_due}
-use Rattle.ftl0_job.specs.Table.{JobState}
+use Rattle.ftl0_job.proofs.Names.{PutsDue, next_due, JobState}
 use Rattle.ftl0_job.proofs.LawLemmas.{due-goes}
 use Rattle.ftl0_job.proofs.job.Job.fill.Goals as goal
 

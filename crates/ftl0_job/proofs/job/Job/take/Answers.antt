@@ -1,13 +1,6 @@
 -- A job takes a packet as what it does takes it.
 use Rattle.std.proofs.Common.{◌≡◌, Ok, rules, sym, ◌∙◌, ap, subst, true, false}
-use Rattle.std.specs.Prelude.{⊤, is_some, Option, Result, Err}
-use Rattle.ftl0_packets.specs.Values.{item_of}
-use Rattle.client_notes.proofs.Offered.{Several-ready}
-use Rattle.ftl0_job.specs.declared.ending.Ending.{Ending}
-use Rattle.disk_model.specs.declared.halt.Halt.{Halt}
-use Rattle.ftl0_job.specs.JobState.{GoBy, GoWith, NotesGoWith}
-use Rattle.ftl0_job.specs.Table.{JobState}
-use Rattle.ftl0_job.specs.Taking.{TakesPacket, with_notes}
+use Rattle.ftl0_job.proofs.Names.{⊤, is_some, Option, Result, Err, item_of, Several-ready, Ending, Halt, GoBy, GoWith, NotesGoWith, JobState, TakesPacket, with_notes}
 use Rattle.ftl0_job.proofs.JobLemmas.{ending-none, ending-some, goes-on, takes-ended, takes-item, takes-stop}
 use Rattle.ftl0_job.proofs.job.Job.take.Goals as goal
 

@@ -1,10 +1,7 @@
 use Rattle.std.proofs.Common.{◌≡◌, ◌+◌, ◌-◌, ◌<◌, ◌≤◌, ℕ, List, drop, length, min, take, true, sym, ap, ◌∙◌, subst, arith}
-use Rattle.std.specs.Prelude.{◌==◌, false}
-use Rattle.std.proofs.lemmas.Bool.Decides.{nat_tests}
-use Rattle.ftl0_packets.specs.Layout.{data_part, packet_text}
+use Rattle.std.specs.Prelude.{◌==◌}
 use Rattle.ftl0_job.specs.declared.phases.UploadPhase.TheVariants as phase
-use Rattle.ftl0_job.specs.Due.{PutsDue, upload_due}
-use Rattle.ftl0_job.specs.Upload.{IsWithin, Upload, in_phase}
+use Rattle.ftl0_job.proofs.Names.{false, nat_tests, data_part, packet_text, PutsDue, upload_due, IsWithin, Upload, in_phase}
 use Rattle.ftl0_job.proofs.DueLemmas.{due-data, part-len}
 use Rattle.ftl0_job.proofs.upload.Upload.fill.Goals as goal
 

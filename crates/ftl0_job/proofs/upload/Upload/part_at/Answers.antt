@@ -1,5 +1,5 @@
 use Rattle.std.proofs.Common.{◌≡◌, ◌-◌, ℕ, List, drop, length, rules, take, ap, ◌∙◌}
-use Rattle.ftl0_job.specs.Upload.{Upload}
+use Rattle.ftl0_job.proofs.Names.{Upload}
 use Rattle.ftl0_job.proofs.DueLemmas.{part-is}
 use Rattle.ftl0_job.proofs.upload.Upload.part_at.Goals as goal
 

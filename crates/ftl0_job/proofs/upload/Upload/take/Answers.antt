@@ -1,10 +1,8 @@
 -- The row by how far the upload has come.
 use Rattle.std.proofs.Common.{ℕ, List, [], Ok, sym, ◌∙◌, ap, subst}
-use Rattle.ftl0_packets.specs.Values.{value_of}
 use Rattle.ftl0_job.specs.declared.phases.UploadPhase.TheVariants as phase
-use Rattle.ftl0_job.specs.Row.{Row}
-use Rattle.ftl0_job.specs.Taking.{TakesRow, with_notes}
-use Rattle.ftl0_job.specs.Upload.{Upload, login_row, upload_row}
+use Rattle.ftl0_job.specs.Upload.{login_row}
+use Rattle.ftl0_job.proofs.Names.{value_of, Row, TakesRow, with_notes, Upload, upload_row}
 use Rattle.ftl0_job.proofs.NotingLemmas.{takes-still}
 use Rattle.ftl0_job.proofs.RowLemmas.{login-silent, upload-in}
 use Rattle.ftl0_job.proofs.upload.Upload.take.Goals as goal

@@ -1,10 +1,7 @@
 use Rattle.std.proofs.Common.{◌∙◌, Err, Ok, ap, sym, subst}
 use Rattle.std.proofs.lemmas.Result.{err_from_is_err_and}
-use Rattle.ftl0_packets.specs.Values.{value_of}
-use Rattle.ftl0_job.specs.declared.work.Work.{Work}
 use Rattle.ftl0_job.specs.declared.work.Work.TheVariants as work
-use Rattle.ftl0_job.specs.Table.{packet_row}
-use Rattle.ftl0_job.specs.Taking.{TakesRow, with_notes}
+use Rattle.ftl0_job.proofs.Names.{value_of, Work, packet_row, TakesRow, with_notes}
 use Rattle.ftl0_job.proofs.JobLemmas.{takes-list, takes-no-list}
 use Rattle.ftl0_job.proofs.work.Work.take.Goals as goal
 

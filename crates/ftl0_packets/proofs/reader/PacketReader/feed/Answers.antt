@@ -1,6 +1,6 @@
 -- What the buffer holds says the answer, and what it says of the stream.
 use Rattle.std.proofs.Common.{◌≡◌, ℕ, List, ◌++◌, drop, sym, ap, ◌∙◌}
-use Rattle.ftl0_packets.specs.Reading.{under_way, packets_of, rest_of}
+use Rattle.ftl0_packets.proofs.Names.{under_way, packets_of, rest_of}
 use Rattle.ftl0_packets.proofs.ReaderLemmas.{IsPartial-fewer, IsAnswer, answer_of, Whole-is, More-is, packets_of-found, packets_of-waits, rest_of-fed, under_way-less, resplit}
 use Rattle.ftl0_packets.proofs.StreamLemmas.{packets_of-less, rest_of-less}
 use Rattle.ftl0_packets.proofs.reader.PacketReader.feed.Goals as goal

@@ -1,5 +1,5 @@
 use Rattle.std.proofs.Common.{◌≡◌, ℕ, List, [], sym, subst, arith}
-use Rattle.ftl0_packets.specs.Reading.{packets_of, rest_of, under_way}
+use Rattle.ftl0_packets.proofs.Names.{packets_of, rest_of, under_way}
 use Rattle.ftl0_packets.proofs.StreamLemmas.{packets_of-less, rest_of-less}
 use Rattle.ftl0_packets.proofs.reader.PacketReader.new.Goals as goal
 

@@ -1,6 +1,6 @@
 -- What the buffer holds after octets were put to the packet under way.
 use Rattle.std.proofs.Common.{ℕ, ◌-◌, min, ◌<◌, List, ◌++◌, length, sym, ap, ◌∙◌, subst, arith}
-use Rattle.ftl0_packets.specs.Reading.{text_len}
+use Rattle.ftl0_packets.proofs.Names.{text_len}
 use Rattle.ftl0_packets.proofs.OctetLemmas.{octets_from}
 use Rattle.ftl0_packets.proofs.ReaderLemmas.{IsBuffer-filled}
 use Rattle.ftl0_packets.proofs.reader.PacketReader.take_octets.Goals as goal

@@ -1,10 +1,8 @@
 -- A packet that is taken is answered by its replies, and one that stops the server by code 3, or not at all.
-use Rattle.std.proofs.lemmas.Grind.{common_steps}
 use Rattle.std.proofs.Common.{arith, refl, sym}
+use Rattle.ftl0_server.proofs.Names.{common_steps, working_on, none_left}
 use Rattle.ftl0_server.proofs.connection.AnswerLemmas.{said-done, said-fault}
-use Rattle.ftl0_session.specs.SessionState.{working_on}
 use Rattle.ftl0_server.proofs.connection.connection.answer.Goals as goal
-use Rattle.ftl0_server.specs.Connection.ConnectionState.{none_left}
 
 pub returns-in-Ok-clause-takes : goal.returns-in-Ok-clause-takes
 returns-in-Ok-clause-takes g c seen w end first stands =

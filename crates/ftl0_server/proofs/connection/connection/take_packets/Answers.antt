@@ -1,9 +1,6 @@
 -- A packet that is found is answered, and the loop stops where that stops.
-use Rattle.std.proofs.lemmas.Grind.{common_steps}
 use Rattle.std.proofs.Common.{arith, ◌≡◌, ◌++◌, true, false, sym}
-use Rattle.ftl0_packets.specs.Reading.{read_item}
-use Rattle.packet_link.specs.PacketLink.{octets_in}
-use Rattle.ftl0_server.specs.Connection.Feeding.{carrying}
+use Rattle.ftl0_server.proofs.Names.{common_steps, read_item, octets_in, carrying}
 use Rattle.ftl0_server.proofs.connection.FeedLemmas.{fit-all, taking-next, taking-start, taking-stops}
 use Rattle.ftl0_server.proofs.connection.connection.take_packets.Goals as goal
 

@@ -1,10 +1,8 @@
 -- Packets were taken from the octets as they were to those that are left.
 use Rattle.std.proofs.Common.{◌++◌, length}
-use Rattle.packet_link.specs.PacketLink.{octets_in}
-use Rattle.ftl0_server.specs.Connection.Feeding.{carrying}
+use Rattle.ftl0_server.proofs.Names.{octets_in, carrying, working_on}
 use Rattle.ftl0_server.proofs.connection.Invariants.{IsTaking}
 use Rattle.ftl0_server.proofs.connection.connection.take_packets.Given as goal
-use Rattle.ftl0_session.specs.SessionState.{working_on}
 
 abbrev pub invariant-loop-left : goal.invariant-loop-left
 invariant-loop-left g l =

@@ -1,8 +1,6 @@
 -- Where the session is over its upload is parked; else the connection goes on.
 use Rattle.std.proofs.Common.{subst, sym}
-use Rattle.file_store.proofs.Offered.{in_parked}
-use Rattle.file_store.specs.Store.{Store}
-use Rattle.ftl0_session.specs.Downloads.Needs.{AreComplete}
+use Rattle.ftl0_server.proofs.Names.{in_parked, Store, AreComplete}
 use Rattle.ftl0_server.proofs.PlaceLemmas.{hears-on, hears-over, talks-as, works-over}
 use Rattle.ftl0_server.proofs.connection.HearLemmas.{parks-same}
 use Rattle.ftl0_server.proofs.place.Place.hear.Goals as goal

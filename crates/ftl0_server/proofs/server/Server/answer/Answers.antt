@@ -1,8 +1,6 @@
 -- A session begins at the lowest free place, or the station is refused.
 use Rattle.std.proofs.Common.{ℕ, Option, subst, sym, ◌∙◌}
-use Rattle.ftl0_server.specs.Kept.{server_state}
-use Rattle.ftl0_server.specs.Server.{called_by}
-use Rattle.ftl0_server.specs.ServerState.{IsServer}
+use Rattle.ftl0_server.proofs.Names.{server_state, called_by, IsServer}
 use Rattle.ftl0_server.proofs.HearLemmas.{same-first_empty}
 use Rattle.ftl0_server.proofs.server.Server.answer.Goals as goal
 

@@ -1,9 +1,6 @@
 -- A station without a connection: the store and its disk stay.
 use Rattle.std.proofs.Common.{◌≡◌, None, subst, sym}
-use Rattle.std.specs.List.{position}
-use Rattle.ax25_frames.specs.Values.{value_of}
-use Rattle.ftl0_server.specs.Kept.{IsSettled}
-use Rattle.ftl0_server.specs.ServerState.{ServerState, has_caller}
+use Rattle.ftl0_server.proofs.Names.{position, value_of, IsSettled, ServerState, has_caller}
 use Rattle.ftl0_server.proofs.HearLemmas.{stranger-event}
 use Rattle.ftl0_server.proofs.server.Server.hear.Goals as goal
 

@@ -1,18 +1,6 @@
 -- The frame is heard at the place of its sender's connection.
 use Rattle.std.proofs.Common.{◌⊎◌, inl, inr, set, refl, ap, subst, sym, ◌∙◌}
-use Rattle.std.proofs.lemmas.Option.{slice_get-get_or}
-use Rattle.ax25_frames.specs.Values.{value_of}
-use Rattle.ax25_link.specs.Kept.{is_there}
-use Rattle.file_store.specs.State.{IsKnown, store_on}
-use Rattle.node.specs.Events.{NodeEvent, hears}
-use Rattle.ftl0_server.specs.AtPlace.{IsPlace}
-use Rattle.ftl0_server.specs.Calls.{Hears}
-use Rattle.ftl0_server.specs.declared.place.Place.{Place}
-use Rattle.ftl0_server.specs.Kept.{server_state}
-use Rattle.ftl0_server.specs.Server.{Server}
-use Rattle.ftl0_server.specs.ServerState.{IsServer, ServerState, any_pending, has_caller}
-use Rattle.ftl0_server.specs.ServerStep.{LooksAtNoFile, happening}
-use Rattle.ftl0_server.specs.Slots.{connected}
+use Rattle.ftl0_server.proofs.Names.{slice_get-get_or, value_of, is_there, IsKnown, store_on, NodeEvent, hears, IsPlace, Hears, Place, server_state, Server, IsServer, ServerState, any_pending, has_caller, LooksAtNoFile, happening, connected}
 use Rattle.ftl0_server.proofs.HearLemmas.{found-at, found-talks, found-within, may-hear, server-hears}
 use Rattle.ftl0_server.proofs.NextLemmas.{none_first}
 use Rattle.ftl0_server.proofs.SettledLemmas.{settled-works}

@@ -1,9 +1,7 @@
 -- By what the frame is.
 use Rattle.std.proofs.Common.{◌≡◌, false, subst, sym, ◌∙◌}
 use Rattle.std.specs.Prelude.{◌&&◌}
-use Rattle.ax25_frames.specs.Values.{value_of}
-use Rattle.ftl0_server.specs.Server.{Server}
-use Rattle.ftl0_server.specs.ServerState.{IsServer}
+use Rattle.ftl0_server.proofs.Names.{value_of, Server, IsServer}
 use Rattle.ftl0_server.proofs.StepLemmas.{both-true, first-false, second-false, stranger-asks, stranger-calls, stranger-passed}
 use Rattle.ftl0_server.proofs.server.Server.hear_stranger.Goals as goal
 use Rattle.ftl0_server.proofs.server.Server.hear_stranger.Goals.{else-frame-via-then-frame+else-frame-2, else-frame-via-else-frame}

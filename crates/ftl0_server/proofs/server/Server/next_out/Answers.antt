@@ -1,11 +1,7 @@
 -- The DM to a station without a connection comes first, then the places' frames.
-use Rattle.std.proofs.lemmas.Grind.{common_steps}
 use Rattle.std.proofs.Common.{◌≡◌, None, false, List, sym, ◌∙◌, ap, subst, arith, rules}
-use Rattle.ftl0_server.specs.declared.place.Place.{Place}
 use Rattle.ftl0_server.specs.declared.server.Server.TheInside.{Inside}
-use Rattle.ftl0_server.specs.Kept.{server_state}
-use Rattle.ftl0_server.specs.Server.{settled}
-use Rattle.ftl0_server.specs.ServerState.{IsServer, ServerState, any_pending}
+use Rattle.ftl0_server.proofs.Names.{common_steps, Place, server_state, settled, IsServer, ServerState, any_pending}
 use Rattle.ftl0_server.proofs.NextLemmas.{same_places}
 use Rattle.ftl0_server.proofs.OutLemmas.{places-out-next, places-out-sends, settled-same, settles, stray-out}
 use Rattle.ftl0_server.proofs.server.Server.next_out.Goals as goal

@@ -1,6 +1,6 @@
 -- The place has no session, and no place has the caller.
 use Rattle.std.proofs.Common.{sym}
-use Rattle.ftl0_server.specs.Kept.{server_state}
+use Rattle.ftl0_server.proofs.Names.{server_state}
 use Rattle.ftl0_server.proofs.SeatLemmas.{begun-server, begun-settled, may-begin}
 use Rattle.ftl0_server.proofs.server.Server.seat.Goals as goal
 

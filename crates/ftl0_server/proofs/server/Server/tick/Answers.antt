@@ -1,18 +1,6 @@
 -- A tick came at each place, and the disk stays.
-use Rattle.std.proofs.lemmas.Grind.{common_steps}
 use Rattle.std.proofs.Common.{refl, subst, sym, [], arith, ap}
-use Rattle.file_store.proofs.Offered.{in_parked, on_parked, stands_parked}
-use Rattle.file_store.specs.State.{store_on}
-use Rattle.file_store.specs.Store.{Store}
-use Rattle.file_store.specs.Working.{DoesAmongReads}
-use Rattle.ftl0_session.specs.Downloads.Needs.{AreComplete}
-use Rattle.node.specs.Events.{NodeEvent, ticks}
-use Rattle.std.specs.Prelude.{Ok}
-use Rattle.ftl0_server.specs.Calls.{Hears}
-use Rattle.ftl0_server.specs.Kept.{server_state}
-use Rattle.ftl0_server.specs.Server.{Server}
-use Rattle.ftl0_server.specs.ServerStep.{happening}
-use Rattle.ftl0_server.specs.ServerState.{IsServer, ServerState}
+use Rattle.ftl0_server.proofs.Names.{common_steps, in_parked, on_parked, stands_parked, store_on, Store, DoesAmongReads, AreComplete, NodeEvent, ticks, Ok, Hears, server_state, Server, happening, IsServer, ServerState}
 use Rattle.ftl0_server.proofs.HearLemmas.{all-are}
 use Rattle.ftl0_server.proofs.connection.HearLemmas.{nothing-done}
 use Rattle.ftl0_server.proofs.StepLemmas.{server-ticked}

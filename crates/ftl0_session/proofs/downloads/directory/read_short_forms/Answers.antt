@@ -1,9 +1,5 @@
 use Rattle.std.proofs.Common.{◌≡◌, ◌++◌, ℕ, List, flat_map, get_or, length, take, sym, ◌∙◌, ap, subst, arith, rules, length-append}
-use Rattle.std.proofs.lemmas.List.{take_all}
-use Rattle.file_store.specs.Info.{IsCompleteIn}
-use Rattle.file_store.specs.State.{StoreState, store_in, store_on}
-use Rattle.file_store.specs.Store.{Store}
-use Rattle.ftl0_session.specs.Downloads.Table.{octets_in, short_octets}
+use Rattle.ftl0_session.proofs.Names.{take_all, IsCompleteIn, StoreState, store_in, store_on, Store, octets_in, short_octets}
 use Rattle.ftl0_session.proofs.downloads.DueLemmas.{flat-more}
 use Rattle.ftl0_session.proofs.downloads.ReadsLemmas.{files-then, known-then, one-more}
 use Rattle.ftl0_session.proofs.downloads.directory.read_short_forms.Goals as goal

@@ -1,7 +1,5 @@
 use Rattle.std.proofs.Common.{◌≡◌, ◌*◌, length, take, flat_map}
-use Rattle.file_store.specs.Reads.{OnlyReads}
-use Rattle.file_store.specs.State.{IsKnown, store_on}
-use Rattle.ftl0_session.specs.Downloads.Table.{octets_in, short_octets}
+use Rattle.ftl0_session.proofs.Names.{OnlyReads, IsKnown, store_on, octets_in, short_octets}
 use Rattle.ftl0_session.proofs.downloads.directory.read_short_forms.Given as goal
 
 abbrev pub invariant-loop-number : goal.invariant-loop-number

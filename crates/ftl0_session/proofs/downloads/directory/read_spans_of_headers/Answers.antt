@@ -1,11 +1,5 @@
 use Rattle.std.proofs.Common.{◌≡◌, ◌++◌, ◌∷◌, [], List, get_or, length, map, sym, ◌∙◌, ap, subst, arith, length-append}
-use Rattle.file_store.specs.Info.{IsCompleteIn}
-use Rattle.file_store.specs.State.{StoreState, store_in, store_on}
-use Rattle.file_store.specs.Store.{Store}
-use Rattle.ftl0_session.specs.Downloads.Needs.{AreStored, LiesIn}
-use Rattle.ftl0_session.specs.Downloads.Spans.{due_of}
-use Rattle.ftl0_session.specs.Downloads.Table.{header_due}
-use Rattle.ftl0_session.specs.declared.downloads.span.Span.{Span}
+use Rattle.ftl0_session.proofs.Names.{IsCompleteIn, StoreState, store_in, store_on, Store, AreStored, LiesIn, due_of, header_due, Span}
 use Rattle.ftl0_session.proofs.downloads.DueLemmas.{map-more, stored-more}
 use Rattle.ftl0_session.proofs.downloads.ReadsLemmas.{files-then, known-then, one-more}
 use Rattle.ftl0_session.proofs.downloads.directory.read_spans_of_headers.Goals as goal

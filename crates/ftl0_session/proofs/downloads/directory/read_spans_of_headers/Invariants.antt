@@ -1,9 +1,5 @@
 use Rattle.std.proofs.Common.{◌≡◌, length, map, take}
-use Rattle.file_store.specs.Reads.{OnlyReads}
-use Rattle.file_store.specs.State.{IsKnown, store_in, store_on}
-use Rattle.ftl0_session.specs.Downloads.Needs.{AreStored}
-use Rattle.ftl0_session.specs.Downloads.Spans.{due_of}
-use Rattle.ftl0_session.specs.Downloads.Table.{long_due}
+use Rattle.ftl0_session.proofs.Names.{OnlyReads, IsKnown, store_in, store_on, AreStored, due_of, long_due}
 use Rattle.ftl0_session.proofs.downloads.directory.read_spans_of_headers.Given as goal
 
 abbrev pub invariant-loop-number : goal.invariant-loop-number

@@ -1,13 +1,5 @@
 use Rattle.std.proofs.Common.{◌≡◌, List, ℕ, length, append-nil, refl, ap, ◌∙◌, sym, subst, rules, true, false, true≢false}
-use Rattle.ftl0_packets.specs.Layout.{packet_text, select_resp}
-use Rattle.selection.specs.Values.{tree_of}
-use Rattle.ftl0_session.specs.Lists.Lists.{CallerList, selected}
-use Rattle.file_store.proofs.Offered.{reads_none, reads_same}
-use Rattle.file_store.specs.State.{StoreState, store_in, store_on}
-use Rattle.file_store.specs.Store.{Store}
-use Rattle.ftl0_session.specs.Downloads.Needs.{AreComplete}
-use Rattle.ftl0_session.specs.Downloads.Table.{chosen, ready, select_row}
-use Rattle.ftl0_session.specs.Downloads.Taking.{SelectsNone, made_by}
+use Rattle.ftl0_session.proofs.Names.{packet_text, select_resp, tree_of, CallerList, selected, reads_none, reads_same, StoreState, store_in, store_on, Store, AreComplete, chosen, ready, select_row, SelectsNone, made_by}
 use Rattle.ftl0_session.proofs.CauseLemmas.{says-one, says-refused}
 use Rattle.ftl0_session.proofs.downloads.LikeLemmas.{header-refused, made-is, made-refused}
 use Rattle.ftl0_session.proofs.downloads.ListLemmas.{selected-files}

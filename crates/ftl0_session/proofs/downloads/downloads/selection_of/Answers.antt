@@ -1,8 +1,5 @@
 use Rattle.std.proofs.Common.{List, ℕ, Option, sym, subst, arith}
-use Rattle.std.specs.Prelude.{IfNone, IfSome}
-use Rattle.selection.specs.Values.{tree_of}
-use Rattle.selection.proofs.ReadLemmas.{IsOctets-slice}
-use Rattle.ftl0_session.specs.Downloads.Taking.{SelectsBy, SelectsNone}
+use Rattle.ftl0_session.proofs.Names.{IfNone, IfSome, tree_of, IsOctets-slice, SelectsBy, SelectsNone}
 use Rattle.ftl0_session.proofs.downloads.SelectLemmas.{selects-none, selects-some}
 use Rattle.ftl0_session.proofs.downloads.downloads.selection_of.Goals as goal
 

@@ -1,5 +1,5 @@
 use Rattle.std.proofs.Common.{length, arith}
-use Rattle.ftl0_session.specs.Downloads.Sending.{octets_due}
+use Rattle.ftl0_session.proofs.Names.{octets_due}
 use Rattle.ftl0_session.proofs.downloads.SentLemmas.{sent-all}
 use Rattle.ftl0_session.proofs.downloads.laws.sent_law.Goals as goal
 

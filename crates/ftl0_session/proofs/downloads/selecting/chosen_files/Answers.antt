@@ -1,15 +1,5 @@
 use Rattle.std.proofs.Common.{◌≡◌, ◌++◌, ◌∷◌, [], ◌<◌, List, ℕ, true, false, None, Some, Option, length, refl, sym, ◌∙◌, ap, subst, arith, lit≤, length-append}
-use Rattle.std.proofs.lemmas.List.{append-nil}
-use Rattle.std.proofs.lemmas.List.Elements.{All-append, All-cons, All-nil}
-use Rattle.file_store.specs.Headers.{header_items}
-use Rattle.file_store.specs.Info.{IsCompleteIn, IsNextComplete}
-use Rattle.file_store.specs.State.{StoreState, store_in, store_on}
-use Rattle.file_store.specs.Store.{Store}
-use Rattle.file_store.proofs.Offered.{like_next, on_like, on_rules}
-use Rattle.selection.specs.Meaning.{holds}
-use Rattle.selection.specs.Values.{tree_of}
-use Rattle.ftl0_session.specs.Downloads.Needs.{AreFiles}
-use Rattle.ftl0_session.specs.Downloads.Table.{chosen, octets_in}
+use Rattle.ftl0_session.proofs.Names.{append-nil, All-append, All-cons, All-nil, header_items, IsCompleteIn, IsNextComplete, StoreState, store_in, store_on, Store, like_next, on_like, on_rules, holds, tree_of, AreFiles, chosen, octets_in}
 use Rattle.ftl0_session.proofs.downloads.ChosenLemmas.{above_of, above-few, above-fewer, chosen-end, chosen-start, chosen-step, next-below}
 use Rattle.ftl0_session.proofs.downloads.ReadsLemmas.{files-then, known-then, none-yet, one-more}
 use Rattle.ftl0_session.proofs.downloads.selecting.chosen_files.Goals as goal

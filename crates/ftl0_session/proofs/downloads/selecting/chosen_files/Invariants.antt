@@ -1,10 +1,5 @@
 use Rattle.std.proofs.Common.{◌≡◌, ◌+◌, ◌-◌, ◌≤◌, ◌++◌, length}
-use Rattle.file_store.specs.IsStore.{IsStore}
-use Rattle.file_store.specs.Reads.{OnlyReads}
-use Rattle.file_store.specs.State.{IsKnown, store_in, store_on}
-use Rattle.selection.specs.Values.{tree_of}
-use Rattle.ftl0_session.specs.Downloads.Needs.{AreFiles}
-use Rattle.ftl0_session.specs.Downloads.Table.{chosen}
+use Rattle.ftl0_session.proofs.Names.{IsStore, OnlyReads, IsKnown, store_in, store_on, tree_of, AreFiles, chosen}
 use Rattle.ftl0_session.proofs.downloads.ChosenLemmas.{above_of}
 use Rattle.ftl0_session.proofs.downloads.selecting.chosen_files.Given as goal
 

@@ -1,10 +1,5 @@
 use Rattle.std.proofs.Common.{◌≡◌, ◌++◌, ◌∷◌, [], ◌-◌, ◌+◌, get_or, length, take, false, true, sym, ◌∙◌, ap, subst, arith, length-append}
-use Rattle.file_store.specs.State.{StoreState, store_in, store_on}
-use Rattle.file_store.specs.Store.{Store}
-use Rattle.ftl0_session.specs.Downloads.Needs.{IsStored, LiesIn}
-use Rattle.ftl0_session.specs.Downloads.Sending.{after_octets, due_octets}
-use Rattle.ftl0_session.specs.Downloads.Spans.{due_of}
-use Rattle.ftl0_session.specs.declared.downloads.span.Span.{Span}
+use Rattle.ftl0_session.proofs.Names.{StoreState, store_in, store_on, Store, IsStored, LiesIn, after_octets, due_octets, due_of, Span}
 use Rattle.ftl0_session.proofs.downloads.DueLemmas.{HasMore, at-map, some-at, step-count, step-few, step-left, step-octets}
 use Rattle.ftl0_session.proofs.downloads.ReadsLemmas.{at_error, files-then, known-then, one-more}
 use Rattle.ftl0_session.proofs.downloads.span.read_spans.Goals as goal

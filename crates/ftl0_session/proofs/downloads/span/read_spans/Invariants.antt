@@ -1,8 +1,5 @@
 use Rattle.std.proofs.Common.{◌≡◌, ◌+◌, ◌-◌, ◌≤◌, ◌++◌, length, map, min, take, drop}
-use Rattle.file_store.specs.Reads.{OnlyReads}
-use Rattle.file_store.specs.State.{IsKnown, store_in, store_on}
-use Rattle.ftl0_session.specs.Downloads.Sending.{after_octets, joined}
-use Rattle.ftl0_session.specs.Downloads.Spans.{due_of}
+use Rattle.ftl0_session.proofs.Names.{OnlyReads, IsKnown, store_in, store_on, after_octets, joined, due_of}
 use Rattle.ftl0_session.proofs.downloads.span.read_spans.Given as goal
 
 abbrev pub invariant-loop-span : goal.invariant-loop-span

@@ -1,10 +1,7 @@
 -- What is due of the session is what is due of its downloading.
 use Rattle.std.proofs.Common.{sym, subst}
-use Rattle.file_store.specs.State.{StoreState, store_on}
-use Rattle.file_store.specs.Store.{Store}
-use Rattle.ftl0_session.specs.Downloads.Filling.{filled}
-use Rattle.ftl0_session.specs.Filling.{PutsDue}
-use Rattle.ftl0_session.specs.SessionState.{SessionState, session_of, state_in}
+use Rattle.ftl0_session.specs.SessionState.{SessionState}
+use Rattle.ftl0_session.proofs.Names.{StoreState, store_on, Store, filled, PutsDue, session_of, state_in}
 use Rattle.ftl0_session.proofs.FillLemmas.{fill-puts}
 use Rattle.ftl0_session.proofs.session.Session.fill.Goals as goal
 

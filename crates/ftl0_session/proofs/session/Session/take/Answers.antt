@@ -1,6 +1,6 @@
 -- A session takes a packet as its parts do.
 use Rattle.std.proofs.Common.{ap}
-use Rattle.ftl0_session.specs.SessionState.{caller_of}
+use Rattle.ftl0_session.proofs.Names.{caller_of}
 use Rattle.ftl0_session.proofs.session.Session.take.Goals as goal
 
 pub take_packet-requires-clause-may : goal.take_packet-requires-clause-may

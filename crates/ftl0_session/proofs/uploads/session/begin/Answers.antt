@@ -1,14 +1,6 @@
 -- A new file: its row, or the answer to a refusal.
 use Rattle.std.proofs.Common.{◌≡◌, ℕ, [], ◌∷◌, refl, ap, sym, ◌∙◌, subst, Some, true≢false}
-use Rattle.std.specs.Prelude.{Ok}
-use Rattle.ftl0_packets.specs.Items.{texts}
-use Rattle.ftl0_packets.specs.Layout.{ul_go_resp, upload_cmd}
-use Rattle.file_store.specs.Command.{begin}
-use Rattle.file_store.specs.State.{store_in}
-use Rattle.file_store.specs.Upload.{Upload}
-use Rattle.ftl0_session.specs.Uploads.Events.{packet_of}
-use Rattle.ftl0_session.specs.Uploads.Session.{command, granted_row, receiving}
-use Rattle.ftl0_session.specs.Uploads.SessionState.{NoOtherOut, receiving_of}
+use Rattle.ftl0_session.proofs.Names.{Ok, texts, ul_go_resp, upload_cmd, begin, store_in, Upload, packet_of, command, granted_row, receiving, NoOtherOut, receiving_of}
 use Rattle.ftl0_session.proofs.uploads.BeginLemmas.{begin-like, begin-refused, begun-only, begun-others, granted-like}
 use Rattle.ftl0_session.proofs.uploads.DoesLemmas.{takes-done}
 use Rattle.ftl0_session.proofs.uploads.UploadRows.{receiving-at}

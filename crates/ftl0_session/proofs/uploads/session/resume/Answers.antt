@@ -1,13 +1,6 @@
 -- A file that goes on: its row, over each store that is so.
 use Rattle.std.proofs.Common.{◌≡◌, ℕ, [], ◌∷◌, length, refl, ap, sym, ◌∙◌, subst, Some}
-use Rattle.ftl0_packets.specs.Items.{texts}
-use Rattle.ftl0_packets.specs.Layout.{ul_go_resp}
-use Rattle.file_store.specs.Store.{Entry, entry_of, octets_of}
-use Rattle.file_store.proofs.Offered.{found-number, in_parked, like_entry, like_is_complete, like_none, like_octets_length}
-use Rattle.file_store.specs.State.{store_in}
-use Rattle.file_store.specs.Upload.{Upload}
-use Rattle.ftl0_session.specs.Uploads.Session.{resumed_row}
-use Rattle.ftl0_session.specs.Uploads.SessionState.{NoOtherOut}
+use Rattle.ftl0_session.proofs.Names.{texts, ul_go_resp, Entry, entry_of, octets_of, found-number, in_parked, like_entry, like_is_complete, like_none, like_octets_length, store_in, Upload, resumed_row, NoOtherOut}
 use Rattle.ftl0_session.proofs.uploads.OtherLemmas.{changes-same, only-own, only-wider, others-kept}
 use Rattle.ftl0_session.proofs.uploads.Rows.{upload-refused}
 use Rattle.ftl0_session.proofs.uploads.UploadRows.{receiving-at, row-bad, row-no_such, row-resumed, row-whole_already}

@@ -1,7 +1,7 @@
 -- Each packet in Aborting, by its row.
 use Rattle.std.proofs.Common.{refl}
 use Rattle.ftl0_session.specs.declared.uploads.phase.Phase.TheVariants as phase
-use Rattle.ftl0_session.specs.Uploads.Session.{aborting, command, silent_row}
+use Rattle.ftl0_session.proofs.Names.{aborting, command, silent_row}
 use Rattle.ftl0_session.proofs.uploads.Rows.{alone-refused, alone-row, error-aborting, row-aborting_data, row-aborting_end, row-at}
 use Rattle.ftl0_session.proofs.uploads.session.take_aborting.Goals as goal
 

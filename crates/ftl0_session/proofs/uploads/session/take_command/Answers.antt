@@ -1,10 +1,7 @@
 -- Each packet in Command, by its row.
 use Rattle.std.proofs.Common.{refl}
-use Rattle.std.specs.Prelude.{Ok}
-use Rattle.ftl0_packets.specs.Layout.{upload_cmd}
 use Rattle.ftl0_session.specs.declared.uploads.phase.Phase.TheVariants as phase
-use Rattle.ftl0_session.specs.Uploads.Events.{packet_of}
-use Rattle.ftl0_session.specs.Uploads.Session.{command}
+use Rattle.ftl0_session.proofs.Names.{Ok, upload_cmd, packet_of, command}
 use Rattle.ftl0_session.proofs.uploads.DoesLemmas.{answered-alone}
 use Rattle.ftl0_session.proofs.uploads.Rows.{alone-refused, error-command}
 use Rattle.ftl0_session.proofs.uploads.session.take_command.Goals as goal

@@ -1,14 +1,7 @@
 -- DATA: its row, or code 3.
 use Rattle.std.proofs.Common.{◌≡◌, ◌⊎◌, ℕ, [], ◌∷◌, refl, ap, sym, ◌∙◌, subst, inl, inr, Some, true, false, true≢false}
-use Rattle.std.specs.Prelude.{Ok}
-use Rattle.ftl0_packets.specs.Layout.{Item, data_part, ul_nak_resp}
-use Rattle.file_store.specs.Command.{unfilled_block}
-use Rattle.file_store.specs.State.{rest_in}
-use Rattle.file_store.specs.Upload.{Upload, appending, with_bytes}
 use Rattle.ftl0_session.specs.declared.uploads.phase.Phase.TheVariants as phase
-use Rattle.ftl0_session.specs.Uploads.Events.{packet_of}
-use Rattle.ftl0_session.specs.Uploads.Session.{aborting, command, taken_row}
-use Rattle.ftl0_session.specs.Uploads.SessionState.{NoOtherOut, receiving_of}
+use Rattle.ftl0_session.proofs.Names.{Ok, Item, data_part, ul_nak_resp, unfilled_block, rest_in, Upload, appending, with_bytes, packet_of, aborting, command, taken_row, NoOtherOut, receiving_of}
 use Rattle.ftl0_session.proofs.uploads.DoesLemmas.{answered-alone, takes-cut, takes-done}
 use Rattle.ftl0_session.proofs.uploads.HoldLemmas.{own-entry, parked, taken, too_much}
 use Rattle.ftl0_session.proofs.uploads.OtherLemmas.{only-none, only-own, others-kept}

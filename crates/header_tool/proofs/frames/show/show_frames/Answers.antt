@@ -1,9 +1,7 @@
 -- One more octet, and the line of the part that it ended, which waits or is put.
 use Rattle.std.proofs.Common.{◌+◌, ◌<◌, ℕ, ap, ◌∙◌, arith, drop, slice_index}
-use Rattle.kiss.specs.KissText.{kiss_parts}
-use Rattle.std.proofs.lemmas.List.{drop_all}
-use Rattle.std.proofs.lemmas.List.Elements.{All-from_get_or}
 use Rattle.kiss.specs.Hearing.{parts_ended}
+use Rattle.header_tool.proofs.Names.{kiss_parts, drop_all, All-from_get_or}
 use Rattle.header_tool.proofs.frames.Showing.{left_is, of_fault, showing-more, showing-end, showing-passed, showing-stops}
 use Rattle.header_tool.proofs.frames.Showing.{untouched-stops}
 use Rattle.header_tool.proofs.frames.show.show_frames.Goals as goal

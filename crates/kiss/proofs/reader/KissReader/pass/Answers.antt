@@ -1,11 +1,7 @@
 -- What is passed within a part is of that part, and so is each front of it.
 use Rattle.std.proofs.Common.{rules, ◌≡◌, ◌≤◌, ◌∷◌, [], ◌++◌, ℕ, List, take, sym, ap, ◌∙◌, subst, OnOk, All, arith, append-nil}
-use Rattle.std.proofs.lemmas.List.{take-take}
-use Rattle.std.proofs.lemmas.List.Elements.{All-take}
-use Rattle.kiss.specs.declared.reader.State.{State}
 use Rattle.kiss.specs.declared.reader.State.TheVariants as state
-use Rattle.kiss.specs.KissText.{escape, fend, kiss_parts}
-use Rattle.kiss.specs.ReaderMemory.{IsPlain, heard_in}
+use Rattle.kiss.proofs.Names.{take-take, All-take, State, escape, fend, kiss_parts, IsPlain, heard_in}
 use Rattle.kiss.proofs.Escapes.{escape-run}
 use Rattle.kiss.proofs.Steps.{heard_in-no_part, no_frame}
 use Rattle.kiss.proofs.reader.KissReader.pass.Goals as goal

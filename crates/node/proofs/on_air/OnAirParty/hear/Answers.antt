@@ -1,11 +1,7 @@
 -- Octets that finish no frame for the station are passed over, and the first that does hands it on.
 use Rattle.std.proofs.Common.{◌≡◌, length, [], ◌∷◌, ◌+◌, None, Some, subst, sym, ◌∙◌, take, arith}
-use Rattle.std.proofs.lemmas.List.{take_all, take_more}
-use Rattle.disk_model.proofs.Writes.{octets_from_fits}
 use Rattle.ax25_frames.specs.Values.{value_of}
-use Rattle.node.specs.Course.{at}
-use Rattle.node.specs.Inputs.{octets_at}
-use Rattle.node.specs.OnAir.{on_air}
+use Rattle.node.proofs.Names.{take_all, take_more, octets_from_fits, at, octets_at, on_air}
 use Rattle.node.proofs.BringsLemmas.{is_true, no-frame, octet-heard, one-frame}
 use Rattle.node.proofs.OnAirLemmas.{fed-all, fed-frame, feeding-more, feeding-none, feeding-run, octets-front, octets-more}
 use Rattle.node.proofs.on_air.OnAirParty.hear.Goals as goal

@@ -1,7 +1,6 @@
 -- The octets up to this one were fed to the reader, and none of them finished a frame for the station.
 use Rattle.std.proofs.Common.{take, length, ◌-◌}
-use Rattle.node.specs.Course.{at}
-use Rattle.node.specs.Inputs.{octets_at}
+use Rattle.node.proofs.Names.{at, octets_at}
 use Rattle.node.proofs.OnAirLemmas.{IsFeeding}
 use Rattle.node.proofs.on_air.OnAirParty.hear.Given as goal
 

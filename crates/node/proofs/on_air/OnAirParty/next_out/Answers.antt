@@ -1,7 +1,6 @@
 -- What the station gives is given as KISS text.
 use Rattle.std.proofs.Common.{◌≡◌, List, ℕ, ap, sym, ◌∙◌, subst}
-use Rattle.kiss.specs.KissText.{kiss_text}
-use Rattle.node.specs.Course.{GivesNext, at}
+use Rattle.node.proofs.Names.{kiss_text, GivesNext, at}
 use Rattle.node.proofs.OnAirLemmas.{gave-all, gives-next}
 use Rattle.node.proofs.on_air.OnAirParty.next_out.Goals as goal
 

@@ -1,5 +1,5 @@
 use Rattle.std.proofs.Common.{◌≡◌, length}
-use Rattle.pfh_items.specs.Faults.{field_of}
+use Rattle.pfh_items.proofs.Names.{field_of}
 use Rattle.pfh_items.proofs.header.Header.field.Given as goal
 
 -- the first item of the id is among those that are left

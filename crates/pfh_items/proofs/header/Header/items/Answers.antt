@@ -1,9 +1,6 @@
 -- The items of a header are those that are read behind AA 55.
 use Rattle.std.proofs.Common.{ℕ, List, drop, ap, ◌∙◌}
-use Rattle.std.proofs.lemmas.List.{take_rest}
-use Rattle.pfh_items.specs.Layout.{ItemValue, HeaderValue}
-use Rattle.pfh_items.specs.Values.{whole_items}
-use Rattle.pfh_items.specs.Walk.{items_from}
+use Rattle.pfh_items.proofs.Names.{take_rest, ItemValue, HeaderValue, whole_items, items_from}
 use Rattle.pfh_items.proofs.HeaderLemmas.{header-items}
 use Rattle.pfh_items.proofs.header.Header.items.Goals as goal
 

@@ -1,7 +1,6 @@
 -- Octets that are a header are a file without a body.
 use Rattle.std.proofs.Common.{◌≡◌, ◌==◌, [], length, sym, ap, ◌∙◌}
-use Rattle.std.proofs.lemmas.Bool.{both_ways, eq-eqb}
-use Rattle.pfh_items.specs.Layout.{HeaderValue}
+use Rattle.pfh_items.proofs.Names.{both_ways, eq-eqb, HeaderValue}
 use Rattle.pfh_items.proofs.HeaderLemmas.{HeaderText-FileText, one_header}
 use Rattle.pfh_items.proofs.header.Header.of.Goals as goal
 

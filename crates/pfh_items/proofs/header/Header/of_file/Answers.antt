@@ -1,11 +1,6 @@
 -- A file is cut behind the end item.
 use Rattle.std.proofs.Common.{◌≡◌, ◌<◌, ◌+◌, ◌-◌, ℕ, List, length, get_or, take, true, Some, drop, sym, ap, ◌∙◌, subst, arith}
-use Rattle.std.proofs.lemmas.List.{take_rest}
-use Rattle.pfh_items.specs.declared.items.Stop.{Stop}
-use Rattle.pfh_items.specs.declared.items.Stop.TheVariants.{EndItem}
-use Rattle.pfh_items.specs.Faults.{begins_header, file_parts}
-use Rattle.pfh_items.specs.Layout.{ItemValue, HeaderValue, HeaderText, FileText}
-use Rattle.pfh_items.specs.Walk.{ItemList, items_from}
+use Rattle.pfh_items.proofs.Names.{take_rest, Stop, EndItem, begins_header, file_parts, ItemValue, HeaderValue, HeaderText, FileText, ItemList, items_from}
 use Rattle.pfh_items.proofs.WalkLemmas.{IsOctets-slice}
 use Rattle.pfh_items.proofs.HeaderLemmas.{IsCutAt, parts_at, cut_at, parts-cut, file_parts-ran, file_parts-other, none-FileText, file_parts-text}
 use Rattle.pfh_items.proofs.header.Header.of_file.Goals as goal

@@ -1,12 +1,7 @@
 -- Where no items are left, the octets at the front say what ends them.
 use Rattle.std.proofs.Common.{◌≡◌, [], Bool, false, cond, Option, Some, None, sym, ap, ◌∙◌}
-use Rattle.std.specs.Prelude.{is_some}
 use Rattle.std.specs.Iterator.{YieldsFirstBy}
-use Rattle.std.proofs.lemmas.Bool.{true≢false}
-use Rattle.pfh_items.specs.declared.items.Item.{Item}
-use Rattle.pfh_items.specs.declared.items.Stop.TheVariants.{EndItem, Ran}
-use Rattle.pfh_items.specs.Values.{item_value, items_left}
-use Rattle.pfh_items.specs.Walk.{ItemList}
+use Rattle.pfh_items.proofs.Names.{is_some, true≢false, Item, EndItem, Ran, item_value, items_left, ItemList}
 use Rattle.pfh_items.proofs.WalkLemmas.{items_from-stop}
 use Rattle.pfh_items.proofs.items.Items.stop.Goals as goal
 

@@ -1,9 +1,6 @@
 -- One step of the walk: the items that are left are those that are read from the next place on.
 use Rattle.std.proofs.Common.{◌≡◌, ℕ, ◌+◌, ◌-◌, List, true, false, length, take, drop, refl, sym, ap, ◌∙◌, arith}
-use Rattle.std.proofs.lemmas.List.{take_rest}
-use Rattle.pfh_items.specs.declared.items.Item.{Item}
-use Rattle.pfh_items.specs.Values.{item_value, items_left}
-use Rattle.pfh_items.specs.Walk.{ItemList, with_item, item_in, item_len, starts_whole, starts_end, items_from}
+use Rattle.pfh_items.proofs.Names.{take_rest, Item, item_value, items_left, ItemList, with_item, item_in, item_len, starts_whole, starts_end, items_from}
 use Rattle.pfh_items.proofs.WalkLemmas.{items_from-none, items_from-next}
 use Rattle.pfh_items.proofs.items.ItemsIterator.next.Goals as goal
 

@@ -1,8 +1,8 @@
 -- The first fault of what was fed, by how far it goes.
 use Rattle.std.proofs.Common.{sym, ◌∙◌}
 use Rattle.pfh_reader.specs.declared.checker.Stage.TheVariants as stages
+use Rattle.pfh_reader.proofs.Names.{first_fault-text, none-FileText}
 use Rattle.pfh_reader.proofs.FaultLemmas.{first_fault-other, first_fault-parts, found}
-use Rattle.pfh_items.proofs.Offered.{first_fault-text, none-FileText}
 use Rattle.pfh_reader.proofs.FeedLemmas.{among_begins, among_none, none_begins, one_begins, other_begins, stands_in, value}
 use Rattle.pfh_reader.proofs.checker.Checker.fault.Goals as goal
 

@@ -1,7 +1,6 @@
 -- More octets are taken.
 use Rattle.std.proofs.Common.{ℕ, List, ◌++◌, length, take, ap, ◌∙◌, subst, arith, append_assoc, length-drop}
-use Rattle.std.proofs.lemmas.List.{take_rest, take-append-drop}
-use Rattle.pfh_reader.specs.Feed.{HasFed}
+use Rattle.pfh_reader.proofs.Names.{take_rest, take-append-drop, HasFed}
 use Rattle.pfh_reader.proofs.checker.Checker.feed.Goals as goal
 
 pub loop-rest-preserved : goal.loop-rest-preserved

@@ -1,5 +1,5 @@
 use Rattle.std.proofs.Common.{◌≡◌, ◌+◌, ℕ, List, ◌++◌, length}
-use Rattle.pfh_reader.specs.Feed.{Extends, fed_len}
+use Rattle.pfh_reader.proofs.Names.{Extends, fed_len}
 use Rattle.pfh_reader.proofs.checker.Checker.feed.Given as goal
 
 -- those that were taken stand before those that are left

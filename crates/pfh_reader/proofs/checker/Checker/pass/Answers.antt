@@ -1,11 +1,7 @@
 -- More octets where no header begins.
 use Rattle.std.proofs.Common.{length, take, sym, ap, ◌∙◌, arith, rules}
-use Rattle.std.proofs.lemmas.List.{take_all}
-use Rattle.pfh_reader.specs.declared.checker.Stage.{Stage}
 use Rattle.pfh_reader.specs.declared.checker.Stage.TheVariants as stages
-use Rattle.pfh_reader.specs.declared.measures.Measures.{Measures}
-use Rattle.pfh_reader.specs.Feed.{CheckerValue}
-use Rattle.pfh_reader.specs.Measures.{with_header}
+use Rattle.pfh_reader.proofs.Names.{take_all, Stage, Measures, CheckerValue, with_header}
 use Rattle.pfh_reader.proofs.FeedLemmas.{Extends-at, passes, value, value_at}
 use Rattle.pfh_reader.proofs.checker.Checker.pass.Goals as goal
 

@@ -1,10 +1,7 @@
 -- One octet more of the item that is cut.
 use Rattle.std.proofs.Common.{ℕ, List, ◌++◌, take, refl, sym, ap, ◌∙◌, subst, rules}
-use Rattle.pfh_reader.specs.declared.checker.Stage.{Stage}
 use Rattle.pfh_reader.specs.declared.checker.Stage.TheVariants as stages
-use Rattle.pfh_reader.specs.declared.measures.Measures.{Measures}
-use Rattle.pfh_reader.specs.Feed.{CheckerValue, TakesEnd, TakesItems}
-use Rattle.pfh_reader.specs.Measures.{at_end, with_header}
+use Rattle.pfh_reader.proofs.Names.{Stage, Measures, CheckerValue, TakesEnd, TakesItems, at_end, with_header}
 use Rattle.pfh_reader.proofs.FeedLemmas.{Extends-at, first_octet, takes_end, takes_items, value, value_at}
 use Rattle.pfh_reader.proofs.checker.Checker.take_of_cut_item.Goals as goal
 

@@ -1,12 +1,7 @@
 -- Items that are whole, up to the end item or to one that is cut.
 use Rattle.std.proofs.Common.{ℕ, ◌+◌, List, [], refl, length, take, drop, sym, ap, ◌∙◌, subst, arith, rules}
-use Rattle.std.proofs.lemmas.List.{take_all}
-use Rattle.pfh_items.proofs.Offered.{IsOctets-slice}
-use Rattle.pfh_reader.specs.declared.checker.Stage.{Stage}
 use Rattle.pfh_reader.specs.declared.checker.Stage.TheVariants as stages
-use Rattle.pfh_reader.specs.declared.measures.Measures.{Measures}
-use Rattle.pfh_reader.specs.Feed.{CheckerValue, IsCutItem}
-use Rattle.pfh_reader.specs.Measures.{at_end, with_header}
+use Rattle.pfh_reader.proofs.Names.{take_all, IsOctets-slice, Stage, Measures, CheckerValue, IsCutItem, at_end, with_header}
 use Rattle.pfh_reader.proofs.FeedLemmas.{Extends-at, end_within, ends, ran, ran_within, takes_end, takes_items, value, value_none}
 use Rattle.pfh_reader.proofs.checker.Checker.take_whole_items.Goals as goal
 

@@ -1,8 +1,6 @@
 -- The first test that fails is the first rule that the file breaks.
 use Rattle.std.proofs.Common.{true, false, refl, sym, ◌∙◌}
-use Rattle.std.proofs.lemmas.Bool.{eq-eqb, ne_eqb}
-use Rattle.pfh_items.specs.Faults.{fits_file}
-use Rattle.pfh_items.proofs.Offered.{body_test, chosen-by, header_test}
+use Rattle.pfh_reader.proofs.Names.{eq-eqb, ne_eqb, fits_file, body_test, chosen-by, header_test}
 use Rattle.pfh_reader.proofs.FaultLemmas.{mandatory_test, fits_test, header_sum_test, body_sum_test}
 use Rattle.pfh_reader.proofs.claims.Claims.fault.Goals as goal
 

@@ -1,9 +1,6 @@
 -- What is kept of items and one more.
 use Rattle.std.proofs.Common.{List, ap, ◌∙◌}
-use Rattle.pfh_items.specs.Table.{mandatory_items}
-use Rattle.pfh_items.specs.Values.{item_value}
-use Rattle.pfh_reader.specs.declared.claims.Standing.{Standing}
-use Rattle.pfh_reader.specs.Claims.{noted}
+use Rattle.pfh_reader.proofs.Names.{mandatory_items, item_value, Standing, noted}
 use Rattle.pfh_reader.proofs.ClaimsLemmas.{standings-more}
 use Rattle.pfh_reader.proofs.claims.Claims.take.Goals as goal
 

@@ -1,6 +1,5 @@
 use Rattle.std.proofs.Common.{◌≡◌, ◌+◌, ◌≤◌, ℕ, List, ◌++◌, length, sym, ap, ◌∙◌, subst}
-use Rattle.pfh_items.specs.Layout.{ItemValue, end_item}
-use Rattle.pfh_writer.specs.Built.{AreOthers, BuilderValue, built_len}
+use Rattle.pfh_writer.proofs.Names.{ItemValue, end_item, AreOthers, BuilderValue, built_len}
 use Rattle.pfh_writer.proofs.BuiltLemmas.{built_faultless}
 use Rattle.pfh_writer.proofs.builder.HeaderBuilder.file.Goals as goal
 

@@ -1,9 +1,5 @@
 use Rattle.std.proofs.Common.{◌≡◌, ℕ, ◌++◌, sym, ap, ◌∙◌, subst, ◌==◌, false, refl}
-use Rattle.std.proofs.lemmas.Bool.{eq-eqb, false≢true}
-use Rattle.px_base.specs.Numbers.{le16_octets}
-use Rattle.pfh_items.specs.Faults.{with_content}
-use Rattle.pfh_items.specs.Layout.{AreItems, header_start, items_text}
-use Rattle.pfh_writer.specs.Built.{BuilderValue, mandatory_saying}
+use Rattle.pfh_writer.proofs.Names.{eq-eqb, false≢true, le16_octets, with_content, AreItems, header_start, items_text, BuilderValue, mandatory_saying}
 use Rattle.pfh_writer.proofs.BuiltLemmas.{first_text}
 use Rattle.pfh_writer.proofs.builder.HeaderBuilder.first.Goals as goal
 

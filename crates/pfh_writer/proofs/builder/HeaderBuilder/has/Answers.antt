@@ -1,9 +1,6 @@
 use Rattle.std.proofs.Common.{ℕ, ◌==◌, List, rules, tests, ap, ◌∙◌}
 use Rattle.std.proofs.lemmas.Iterator.Search.{any_from_yields_List}
-use Rattle.pfh_items.specs.Layout.{ItemValue}
-use Rattle.pfh_items.specs.Walk.{ItemList, items_from}
-use Rattle.pfh_items.proofs.Offered.{YieldsList-items}
-use Rattle.pfh_writer.specs.Built.{BuilderValue, stands}
+use Rattle.pfh_writer.proofs.Names.{ItemValue, ItemList, items_from, YieldsList-items, BuilderValue, stands}
 use Rattle.pfh_writer.proofs.builder.HeaderBuilder.has.Goals as goal
 
 pub returns : goal.returns

@@ -1,6 +1,5 @@
 use Rattle.std.proofs.Common.{◌+◌, ℕ, List, length, ap, ◌∙◌, subst}
-use Rattle.pfh_items.specs.Layout.{ItemValue}
-use Rattle.pfh_writer.specs.Built.{AreOthers, BuilderValue}
+use Rattle.pfh_writer.proofs.Names.{ItemValue, AreOthers, BuilderValue}
 use Rattle.pfh_writer.proofs.BuiltLemmas.{built_len-is}
 use Rattle.pfh_writer.proofs.builder.HeaderBuilder.header_len.Goals as goal
 

@@ -1,7 +1,5 @@
 use Rattle.std.proofs.Common.{◌+◌, ◌%◌, ℕ, List, ap, ◌∙◌, subst}
-use Rattle.px_base.specs.Numbers.{sum16}
-use Rattle.pfh_items.specs.Layout.{ItemValue}
-use Rattle.pfh_writer.specs.Built.{AreOthers, BuilderValue}
+use Rattle.pfh_writer.proofs.Names.{sum16, ItemValue, AreOthers, BuilderValue}
 use Rattle.pfh_writer.proofs.BuiltLemmas.{header_sum-parts}
 use Rattle.pfh_writer.proofs.builder.HeaderBuilder.header_sum.Goals as goal
 

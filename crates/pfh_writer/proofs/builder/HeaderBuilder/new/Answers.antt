@@ -1,5 +1,5 @@
 use Rattle.std.proofs.Common.{[], ap, List}
-use Rattle.pfh_items.specs.Layout.{ItemValue}
+use Rattle.pfh_writer.proofs.Names.{ItemValue}
 use Rattle.pfh_writer.proofs.OthersLemmas.{no_others, read_back}
 use Rattle.pfh_writer.proofs.builder.HeaderBuilder.new.Goals as goal
 

@@ -1,7 +1,5 @@
 use Rattle.std.proofs.Common.{rules, ◌≡◌, ◌≤◌, length, ℕ, [], ◌∷◌, ◌++◌, List, None, sym, ap, ◌∙◌, arith}
-use Rattle.pfh_items.specs.Layout.{ItemValue, item_text}
-use Rattle.pfh_items.specs.Walk.{items_from}
-use Rattle.pfh_writer.specs.Built.{AreOthers, BuilderValue, item, put_refusal}
+use Rattle.pfh_writer.proofs.Names.{ItemValue, item_text, items_from, AreOthers, BuilderValue, item, put_refusal}
 use Rattle.pfh_writer.proofs.OthersLemmas.{IsOctets-of, put_item, put_optional, more_others, others_read, read_back}
 use Rattle.pfh_writer.proofs.builder.HeaderBuilder.put.Goals as goal
 

@@ -1,6 +1,6 @@
 use Rattle.std.proofs.Common.{◌≡◌, ◌+◌, ◌-◌, arith, refl}
+use Rattle.pfh_writer.proofs.Names.{stamp_of}
 use Rattle.pfh_writer.proofs.FillingLemmas.{fills_front}
-use Rattle.pfh_writer.specs.Stamping.{stamp_of}
 use Rattle.pfh_writer.proofs.server.ServerItems.fill_front.Goals as goal
 use Rattle.pfh_writer.proofs.server.ServerItems.fill_front.Goals.{else-id-eq0-via-then-id-eq0+else-len-eq0, else-id-eq0-via-else-id-eq0}
 

@@ -1,7 +1,6 @@
 use Rattle.std.proofs.Common.{ap, length, arith, map}
 use Rattle.pfh_items.specs.Values.{item_value}
-use Rattle.pfh_writer.specs.Stamping.{stamp_of}
-use Rattle.pfh_writer.specs.Sums.{data_sum, filled_item}
+use Rattle.pfh_writer.proofs.Names.{stamp_of, data_sum, filled_item}
 use Rattle.pfh_writer.proofs.SumLemmas.{data_sum_more, data_sum_none}
 use Rattle.pfh_writer.proofs.server.ServerItems.renewed_sum.Goals as goal
 

@@ -1,6 +1,5 @@
 use Rattle.std.proofs.Common.{◌≡◌, ◌+◌, ◌%◌, length, map}
-use Rattle.pfh_writer.specs.Stamping.{stamp_of}
-use Rattle.pfh_writer.specs.Sums.{data_sum, filled_item}
+use Rattle.pfh_writer.proofs.Names.{stamp_of, data_sum, filled_item}
 use Rattle.pfh_writer.proofs.server.ServerItems.renewed_sum.Given as goal
 
 -- the sum so far, with the items that are left

@@ -1,6 +1,5 @@
 use Rattle.std.proofs.Common.{◌≡◌, ℕ, ◌<◌, ◌≤◌, List, length, take, get_or, arith, sym, ap, ◌∙◌, subst, refl}
-use Rattle.std.proofs.lemmas.List.{take_all}
-use Rattle.pfh_writer.specs.Stamping.{StamperValue}
+use Rattle.pfh_writer.proofs.Names.{take_all, StamperValue}
 use Rattle.pfh_writer.proofs.StepLemmas.{StampsOn, stamps_none, passed_more, rest_more, same_octet}
 use Rattle.pfh_writer.proofs.FrontLemmas.{stamps_all, stamps_body}
 use Rattle.pfh_writer.proofs.stamper.Stamper.feed.Goals as goal

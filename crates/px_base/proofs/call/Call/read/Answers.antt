@@ -1,6 +1,5 @@
 use Rattle.std.proofs.Common.{◌≡◌, length, arith}
-use Rattle.std.proofs.lemmas.Bool.Decides.{nat_tests}
-use Rattle.px_base.specs.CallSign.{CallSign}
+use Rattle.px_base.proofs.Names.{nat_tests, CallSign}
 use Rattle.px_base.proofs.Calls.{split_made, split_length, split_fails_at_once, split_fails_after, split_is_call, call_valid}
 use Rattle.px_base.proofs.call.Call.read.Goals as goal
 

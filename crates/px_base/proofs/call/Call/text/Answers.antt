@@ -1,5 +1,5 @@
 use Rattle.std.proofs.Common.{◌≡◌, subst, sym}
-use Rattle.px_base.specs.CallSign.{CallSign, CallText, call_text}
+use Rattle.px_base.proofs.Names.{CallSign, CallText, call_text}
 use Rattle.px_base.proofs.Calls.{call_text_is, text_written}
 use Rattle.px_base.proofs.call.Call.text.Goals as goal
 

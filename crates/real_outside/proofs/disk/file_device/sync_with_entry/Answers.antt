@@ -1,8 +1,6 @@
 use Rattle.std.proofs.Common.{Bool, List, ℕ, [], ◌∷◌, inr, Ok, refl, sym, subst}
-use Rattle.px_base.specs.Outside.{Grows}
-use Rattle.real_outside.specs.Disk.FileDevices.{SyncsWithEntry}
-use Rattle.real_outside.specs.Files.{folder_of}
 use Rattle.real_outside.specs.declared.files.file_call.FileCall.TheVariants as call
+use Rattle.real_outside.proofs.Names.{Grows, SyncsWithEntry, folder_of}
 use Rattle.real_outside.proofs.Asked.{asks_two}
 use Rattle.real_outside.proofs.disk.file_device.sync_with_entry.Goals as goal
 

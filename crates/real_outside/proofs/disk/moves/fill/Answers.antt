@@ -1,11 +1,7 @@
 use Rattle.std.proofs.Common.{◌≡◌, ℕ, ◌+◌, ◌-◌, ◌<◌, ◌≤◌, List, [], ◌∷◌, ◌++◌, length, take, sym, ◌∙◌, ap, subst, arith, true, false, Bool, length-drop}
-use Rattle.std.proofs.lemmas.List.{take_rest, take_all}
-use Rattle.real_outside.specs.Disk.Devices.{FillsFrom, GoesOn, IsReadOf, all_given, moved, octets_given}
-use Rattle.real_outside.specs.declared.disk.device.DeviceCall.{DeviceCall}
+use Rattle.real_outside.proofs.Names.{take_rest, take_all, FillsFrom, GoesOn, IsReadOf, all_given, moved, octets_given, DeviceCall, asks_as, asks_more, put_mid, same_len_mid}
 use Rattle.real_outside.proofs.Moving.{Leads, fills_not, front_of_room, given_more, leads_end, leads_fault, leads_more}
-use Rattle.px_base.proofs.Told.{asks_as, asks_more}
 use Rattle.real_outside.proofs.disk.moves.fill.Goals as goal
-use borrow.Rule.Slice.PartMut.{put_mid, same_len_mid}
 
 abbrev IsNext : ℕ → ℕ → ℕ → DeviceCall → Type 0
 IsNext at all before = IsReadOf (at + before) (all - before)

@@ -1,7 +1,6 @@
 -- What reached the device gave the octets before those that are left.
 use Rattle.std.proofs.Common.{◌≡◌, ◌+◌, ◌-◌, ◌≤◌, length, take}
-use Rattle.px_base.specs.CallRecords.{Asks}
-use Rattle.real_outside.specs.Disk.Devices.{IsReadOf, all_given}
+use Rattle.real_outside.proofs.Names.{Asks, IsReadOf, all_given}
 use Rattle.real_outside.proofs.Moving.{Leads}
 use Rattle.real_outside.proofs.disk.moves.fill.Given as goal
 

@@ -1,10 +1,7 @@
 use Rattle.std.proofs.Common.{◌≡◌, Bool, ℕ, ◌+◌, ◌<◌, List, [], ◌∷◌, ◌++◌, length, true, drop, ap, sym, subst, arith, length-drop}
-use Rattle.std.proofs.lemmas.List.{take_rest}
-use Rattle.real_outside.specs.Disk.Devices.{IsWriteOf, PutsAt, WritesAll, moved}
-use Rattle.real_outside.specs.declared.disk.device.DeviceCall.{DeviceCall}
+use Rattle.real_outside.proofs.Names.{take_rest, IsWriteOf, PutsAt, WritesAll, moved, DeviceCall, asks_as, asks_more}
 use Rattle.real_outside.proofs.Errors.{not_ok}
 use Rattle.real_outside.proofs.Moving.{Leads, leads_end, leads_fault, leads_more}
-use Rattle.px_base.proofs.Told.{asks_as, asks_more}
 use Rattle.real_outside.proofs.disk.moves.put.Goals as goal
 
 abbrev IsNext : ℕ → List ℕ → ℕ → DeviceCall → Type 0

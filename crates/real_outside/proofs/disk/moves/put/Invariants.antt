@@ -1,7 +1,6 @@
 -- What reached the device wrote the octets before those that are left.
 use Rattle.std.proofs.Common.{◌+◌, ◌-◌, ◌≤◌, length, drop}
-use Rattle.px_base.specs.CallRecords.{Asks}
-use Rattle.real_outside.specs.Disk.Devices.{IsWriteOf}
+use Rattle.real_outside.proofs.Names.{Asks, IsWriteOf}
 use Rattle.real_outside.proofs.Moving.{Leads}
 use Rattle.real_outside.proofs.disk.moves.put.Given as goal
 

@@ -1,7 +1,6 @@
 use Rattle.std.proofs.Common.{refl}
-use Rattle.real_outside.specs.Disk.Devices.{SyncsOnce}
 use Rattle.real_outside.specs.declared.disk.device.DeviceCall.TheVariants as call
-use Rattle.px_base.proofs.Told.{asks_one}
+use Rattle.real_outside.proofs.Names.{SyncsOnce, asks_one}
 use Rattle.real_outside.proofs.disk.moves.sync.Goals as goal
 
 pub returns : goal.returns

@@ -1,6 +1,6 @@
 use Rattle.std.proofs.Common.{inr, Ok, Err, refl}
-use Rattle.real_outside.specs.Files.{OpensLocked}
 use Rattle.real_outside.specs.declared.files.file_call.FileCall.TheVariants as call
+use Rattle.real_outside.proofs.Names.{OpensLocked}
 use Rattle.real_outside.proofs.Asked.{asks_two}
 use Rattle.real_outside.proofs.files.steps.open_locked.Goals as goal
 

@@ -1,6 +1,6 @@
 use Rattle.std.proofs.Common.{◌<◌, inl, refl, arith}
-use Rattle.real_outside.specs.Files.{WritesOnce}
 use Rattle.real_outside.specs.declared.files.file_call.FileCall.TheVariants as call
+use Rattle.real_outside.proofs.Names.{WritesOnce}
 use Rattle.real_outside.proofs.Asked.{asks_two}
 use Rattle.real_outside.proofs.files.steps.write_once.Goals as goal
 

@@ -1,7 +1,6 @@
 use Rattle.std.proofs.Common.{refl}
-use Rattle.real_outside.specs.Shelf.Keeping.{ChecksPart}
 use Rattle.real_outside.specs.declared.files.file_call.FileCall.TheVariants as call
-use Rattle.px_base.proofs.Told.{asks_one}
+use Rattle.real_outside.proofs.Names.{ChecksPart, asks_one}
 use Rattle.real_outside.proofs.shelf.keeping.check_part.Goals as goal
 
 pub returns : goal.returns

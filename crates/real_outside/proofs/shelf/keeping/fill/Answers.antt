@@ -1,4 +1,4 @@
-use Rattle.real_outside.specs.Shelf.Keeping.{Prepares, WritesSynced}
+use Rattle.real_outside.proofs.Names.{Prepares, WritesSynced}
 use Rattle.real_outside.proofs.Kept.{in_turn}
 use Rattle.real_outside.proofs.shelf.keeping.fill.Goals as goal
 

@@ -1,5 +1,5 @@
-use Rattle.real_outside.specs.Shelf.Keeping.{Fills, Once}
 use Rattle.real_outside.specs.declared.files.file_call.FileCall.TheVariants as call
+use Rattle.real_outside.proofs.Names.{Fills, Once}
 use Rattle.real_outside.proofs.Errors.{handed_on}
 use Rattle.real_outside.proofs.Kept.{in_turn, in_turn_err, once}
 use Rattle.real_outside.proofs.shelf.keeping.fill_and_move.Goals as goal

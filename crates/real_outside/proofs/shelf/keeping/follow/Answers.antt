@@ -1,7 +1,6 @@
 use Rattle.std.proofs.Common.{inl, inr, ℕ, List, [], ◌∷◌, Ok, Err, refl, sym, subst}
-use Rattle.px_base.specs.Outside.{Grows}
-use Rattle.real_outside.specs.Shelf.Keeping.{FollowsLink, KeepsLinked, KeepsUnresolved}
 use Rattle.real_outside.specs.declared.files.file_call.FileCall.TheVariants as call
+use Rattle.real_outside.proofs.Names.{Grows, FollowsLink, KeepsLinked, KeepsUnresolved}
 use Rattle.real_outside.proofs.Asked.{after_call}
 use Rattle.real_outside.proofs.shelf.keeping.follow.Goals as goal
 

@@ -1,6 +1,5 @@
 use Rattle.std.proofs.Common.{None}
-use Rattle.real_outside.specs.Files.{OpensLocked}
-use Rattle.real_outside.specs.Shelf.Keeping.{Fills}
+use Rattle.real_outside.proofs.Names.{OpensLocked, Fills}
 use Rattle.real_outside.proofs.Kept.{on_opened}
 use Rattle.real_outside.proofs.shelf.keeping.keep_in_place.Goals as goal
 

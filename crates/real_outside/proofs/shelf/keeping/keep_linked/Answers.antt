@@ -1,6 +1,6 @@
 use Rattle.std.proofs.Common.{inr, Ok, refl}
-use Rattle.real_outside.specs.Shelf.Keeping.{KeepsAt, KeepsLinked}
 use Rattle.real_outside.specs.declared.files.file_call.FileCall.TheVariants as call
+use Rattle.real_outside.proofs.Names.{KeepsAt, KeepsLinked}
 use Rattle.real_outside.proofs.Asked.{after_call}
 use Rattle.real_outside.proofs.shelf.keeping.keep_linked.Goals as goal
 

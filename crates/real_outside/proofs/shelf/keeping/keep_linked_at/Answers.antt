@@ -1,7 +1,6 @@
 use Rattle.std.proofs.Common.{◌≡◌, inr, Some, false, sym, subst}
-use Rattle.real_outside.specs.Shelf.Keeping.{KeepsAt, Replaces, is_of_system}
 use Rattle.real_outside.specs.declared.files.file_call.Found.{Found}
-use Rattle.px_base.proofs.Told.{asks_as}
+use Rattle.real_outside.proofs.Names.{KeepsAt, Replaces, is_of_system, asks_as}
 use Rattle.real_outside.proofs.shelf.keeping.keep_linked_at.Goals as goal
 
 pub returns-in-File : goal.returns-in-File

@@ -1,9 +1,6 @@
 use Rattle.std.proofs.Common.{inl, inr, ℕ, List, [], ◌∷◌, Ok, Err, refl, subst}
-use Rattle.px_base.specs.Outside.{Grows}
-use Rattle.real_outside.specs.Files.{folder_of}
-use Rattle.real_outside.specs.Shelf.Keeping.{FillsAndMoves, MovesFilled}
 use Rattle.real_outside.specs.declared.files.file_call.FileCall.TheVariants as call
-use Rattle.px_base.proofs.Told.{asks_more}
+use Rattle.real_outside.proofs.Names.{Grows, folder_of, FillsAndMoves, MovesFilled, asks_more}
 use Rattle.real_outside.proofs.shelf.keeping.move_filled.Goals as goal
 
 pub returns-in-Ok : goal.returns-in-Ok

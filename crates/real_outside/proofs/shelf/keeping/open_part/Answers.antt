@@ -1,7 +1,5 @@
 use Rattle.std.proofs.Common.{inl, inr, Ok, Err, refl}
-use Rattle.real_outside.specs.Files.{OpensLocked, file_answer}
-use Rattle.real_outside.specs.Shelf.Keeping.{ChecksPart, OpensPart}
-use Rattle.px_base.proofs.Told.{asks_as, asks_then}
+use Rattle.real_outside.proofs.Names.{OpensLocked, file_answer, ChecksPart, OpensPart, asks_as, asks_then}
 use Rattle.real_outside.proofs.Errors.{handed_on}
 use Rattle.real_outside.proofs.shelf.keeping.open_part.Goals as goal
 

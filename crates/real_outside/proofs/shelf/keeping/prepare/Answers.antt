@@ -1,7 +1,6 @@
 use Rattle.std.proofs.Common.{ℕ, Option, Ok, sym, subst}
-use Rattle.px_base.specs.CallRecords.{Asks}
-use Rattle.real_outside.specs.Shelf.Keeping.{Once, Prepares}
 use Rattle.real_outside.specs.declared.files.file_call.FileCall.TheVariants as call
+use Rattle.real_outside.proofs.Names.{Asks, Once, Prepares}
 use Rattle.real_outside.proofs.Kept.{in_turn, once}
 use Rattle.real_outside.proofs.shelf.keeping.prepare.Goals as goal
 

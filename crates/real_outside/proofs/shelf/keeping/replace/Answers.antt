@@ -1,9 +1,7 @@
 use Rattle.std.proofs.Common.{◌≡◌, inl, ℕ, List, ◌++◌, Option, None, Some, Err, sym, subst}
-use Rattle.std.specs.Prelude.{codes}
-use Rattle.real_outside.specs.Shelf.Keeping.{OnLocked, Replaces, WritesNew, WritesOver, out_of_memory}
+use Rattle.real_outside.proofs.Names.{codes, OnLocked, Replaces, WritesNew, WritesOver, out_of_memory, asks_as}
 use Rattle.real_outside.proofs.Errors.{handed_on}
 use Rattle.real_outside.proofs.Kept.{none_replaced}
-use Rattle.px_base.proofs.Told.{asks_as}
 use Rattle.real_outside.proofs.shelf.keeping.replace.Goals as goal
 
 pub returns-in_err-part : goal.returns-in_err-part

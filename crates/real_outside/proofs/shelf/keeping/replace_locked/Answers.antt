@@ -1,5 +1,4 @@
-use Rattle.real_outside.specs.Files.{OpensLocked}
-use Rattle.real_outside.specs.Shelf.Keeping.{WritesOver}
+use Rattle.real_outside.proofs.Names.{OpensLocked, WritesOver}
 use Rattle.real_outside.proofs.Kept.{on_opened}
 use Rattle.real_outside.proofs.shelf.keeping.replace_locked.Goals as goal
 

@@ -1,9 +1,6 @@
 use Rattle.std.proofs.Common.{◌≡◌, ℕ, ◌+◌, ◌<◌, ◌≤◌, List, length, drop, Ok, Err, ap, subst, arith, length-drop}
-use Rattle.std.proofs.lemmas.List.{drop_all, take_rest}
-use Rattle.px_base.specs.CallRecords.{Asks}
-use Rattle.real_outside.specs.Shelf.Keeping.{WritesFrom, WritesSome}
+use Rattle.real_outside.proofs.Names.{drop_all, take_rest, Asks, WritesFrom, WritesSome, asks_as, asks_then}
 use Rattle.real_outside.proofs.Errors.{handed_on}
-use Rattle.px_base.proofs.Told.{asks_as, asks_then}
 use Rattle.real_outside.proofs.WriteByWrite.{Leads, leads_end, leads_last, leads_more}
 use Rattle.real_outside.proofs.shelf.keeping.write_all.Goals as goal
 

@@ -1,6 +1,6 @@
 -- What reached the files wrote the octets before those that are left.
 use Rattle.std.proofs.Common.{◌-◌, ◌≤◌, length}
-use Rattle.px_base.specs.CallRecords.{Asks}
+use Rattle.real_outside.proofs.Names.{Asks}
 use Rattle.real_outside.proofs.WriteByWrite.{Leads}
 use Rattle.real_outside.proofs.shelf.keeping.write_all.Given as goal
 

@@ -1,5 +1,5 @@
 use Rattle.std.proofs.Common.{Some}
-use Rattle.real_outside.specs.Shelf.Keeping.{MovesFilled, OpensPart}
+use Rattle.real_outside.proofs.Names.{MovesFilled, OpensPart}
 use Rattle.real_outside.proofs.Errors.{handed_on}
 use Rattle.real_outside.proofs.Kept.{not_opened, on_opened}
 use Rattle.real_outside.proofs.shelf.keeping.write_over.Goals as goal

@@ -1,5 +1,5 @@
-use Rattle.real_outside.specs.Shelf.Keeping.{Once, WritesFrom}
 use Rattle.real_outside.specs.declared.files.file_call.FileCall.TheVariants as call
+use Rattle.real_outside.proofs.Names.{Once, WritesFrom}
 use Rattle.real_outside.proofs.Kept.{in_turn, once}
 use Rattle.real_outside.proofs.shelf.keeping.write_synced.Goals as goal
 

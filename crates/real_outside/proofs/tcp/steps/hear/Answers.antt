@@ -1,7 +1,5 @@
 use Rattle.std.proofs.Common.{refl}
-use Rattle.px_base.specs.Polling.{turn_of}
-use Rattle.real_outside.specs.Tcp.Connections.{HearsAt, Polls, Readies}
-use Rattle.px_base.proofs.Told.{asks_then}
+use Rattle.real_outside.proofs.Names.{turn_of, HearsAt, Polls, Readies, asks_then}
 use Rattle.real_outside.proofs.tcp.steps.hear.Goals as goal
 
 pub returns-clause-asks : goal.returns-clause-asks

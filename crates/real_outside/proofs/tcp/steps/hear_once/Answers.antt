@@ -1,6 +1,6 @@
 use Rattle.std.proofs.Common.{◌≤◌, [], ◌∷◌, length, IfOk, refl, sym, subst, ℕ}
-use Rattle.real_outside.specs.StreamCalls.{octets_read}
 use Rattle.real_outside.specs.declared.tcp.connection.ConnectionCall.TheVariants as call
+use Rattle.real_outside.proofs.Names.{octets_read}
 use Rattle.real_outside.proofs.tcp.Turns.{turn_is}
 use Rattle.real_outside.proofs.tcp.steps.hear_once.Goals as goal
 

@@ -1,6 +1,5 @@
 use Rattle.std.proofs.Common.{false, inl, inr, true}
-use Rattle.real_outside.specs.Tcp.Connections.{Connects, LimitsReads, SendsAtOnce, Then}
-use Rattle.px_base.proofs.Told.{asks_as}
+use Rattle.real_outside.proofs.Names.{Connects, LimitsReads, SendsAtOnce, Then, asks_as}
 use Rattle.real_outside.proofs.tcp.Asked.{asks_both}
 use Rattle.real_outside.proofs.tcp.steps.open.Goals as goal
 

@@ -1,7 +1,5 @@
 use Rattle.std.proofs.Common.{refl}
-use Rattle.std.specs.Prelude.{is_ok}
-use Rattle.real_outside.specs.Tcp.Connections.{Puts, Readies, SaysAt}
-use Rattle.px_base.proofs.Told.{asks_then}
+use Rattle.real_outside.proofs.Names.{is_ok, Puts, Readies, SaysAt, asks_then}
 use Rattle.real_outside.proofs.tcp.steps.say.Goals as goal
 
 pub returns-clause-asks : goal.returns-clause-asks

@@ -1,9 +1,7 @@
 use Rattle.std.proofs.Common.{◌≡◌, ◌+◌, ◌<◌, List, [], ◌++◌, length, drop, false, Err, Ok, Bool, ℕ, ap, sym, subst}
 use Rattle.std.proofs.Common.{arith, length-drop}
-use Rattle.std.specs.Prelude.{is_ok}
-use Rattle.std.proofs.lemmas.List.{take_rest}
-use Rattle.real_outside.specs.Tcp.Connections.{Sends, WritesOnce}
-use Rattle.px_base.proofs.Told.{asks_then}
+use Rattle.real_outside.specs.Tcp.Connections.{WritesOnce}
+use Rattle.real_outside.proofs.Names.{is_ok, take_rest, Sends, asks_then}
 use Rattle.real_outside.proofs.Errors.{not_ok}
 use Rattle.real_outside.proofs.tcp.Sending.{Leads, leads_end, leads_more, write_none}
 use Rattle.real_outside.proofs.tcp.steps.send.Goals as goal

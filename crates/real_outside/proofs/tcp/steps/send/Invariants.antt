@@ -1,6 +1,6 @@
 -- What reached the connection took the octets before those that are left.
 use Rattle.std.proofs.Common.{◌-◌, ◌≤◌, length}
-use Rattle.px_base.specs.CallRecords.{Asks}
+use Rattle.real_outside.proofs.Names.{Asks}
 use Rattle.real_outside.proofs.tcp.Sending.{Leads}
 use Rattle.real_outside.proofs.tcp.steps.send.Given as goal
 

@@ -1,9 +1,5 @@
 use Rattle.std.proofs.Common.{rules, ◌≡◌, ℕ, List, sym, ap, subst, ◌∙◌}
-use Rattle.std.specs.Prelude.{IsOk}
-use Rattle.selection.specs.Layout.{Tree}
-use Rattle.selection.specs.Meaning.{holds}
-use Rattle.selection.specs.Reading.{tree_in}
-use Rattle.selection.specs.Values.{tree_of}
+use Rattle.selection.proofs.Names.{IsOk, Tree, holds, tree_in, tree_of}
 use Rattle.selection.proofs.ReadLemmas.{postfix_ok, tree_is}
 use Rattle.selection.proofs.selection.Selection.holds.Goals as goal
 

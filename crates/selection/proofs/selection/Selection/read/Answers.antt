@@ -1,8 +1,5 @@
 use Rattle.std.proofs.Common.{rules, ◌≡◌, ℕ, List, Err, refl, sym, ap, subst, ◌∙◌, arith}
-use Rattle.std.proofs.lemmas.Result.{err_from_is_err_and}
-use Rattle.px_base.specs.Octets.{IsOctets}
-use Rattle.selection.specs.Layout.{Postfix}
-use Rattle.selection.specs.Values.{tree_of}
+use Rattle.selection.proofs.Names.{err_from_is_err_and, IsOctets, Postfix, tree_of}
 use Rattle.selection.proofs.ReadLemmas.{IsOctets-slice, accepted, exit-accepts, exit-refuses, read-refuses}
 use Rattle.selection.proofs.selection.Selection.read.Goals as goal
 

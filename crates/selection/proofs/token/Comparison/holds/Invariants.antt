@@ -1,7 +1,6 @@
 use Rattle.std.proofs.Common.{◌≡◌, length}
 use Rattle.std.specs.List.{list_any}
-use Rattle.selection.specs.Meaning.{satisfies}
-use Rattle.selection.specs.Values.{comparison_value}
+use Rattle.selection.proofs.Names.{satisfies, comparison_value}
 use Rattle.selection.proofs.token.Comparison.holds.Given as goal
 
 -- an item that satisfies it is among those that are left

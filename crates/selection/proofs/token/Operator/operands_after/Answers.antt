@@ -1,7 +1,5 @@
 use Rattle.std.proofs.Common.{ℕ, ◌+◌, ◌-◌, ◌≤◌, Some, sym, subst, arith}
-use Rattle.selection.specs.Layout.{operands_of}
-use Rattle.selection.specs.Reading.{operated}
-use Rattle.selection.specs.Values.{LeavesAs}
+use Rattle.selection.proofs.Names.{operands_of, operated, LeavesAs}
 use Rattle.selection.proofs.StepLemmas.{no_operands, operated_as}
 use Rattle.selection.proofs.token.Operator.operands_after.Goals as goal
 

@@ -1,8 +1,5 @@
 use Rattle.std.proofs.Common.{◌∷◌, ap, arith}
-use Rattle.selection.specs.declared.token.Token.{Token}
-use Rattle.selection.specs.Layout.{Compare}
-use Rattle.selection.specs.Reading.{trees_after}
-use Rattle.selection.specs.Values.{comparison_value, token_value}
+use Rattle.selection.proofs.Names.{Token, Compare, trees_after, comparison_value, token_value}
 use Rattle.selection.proofs.token.Token.operands_after.Goals as goal
 
 pub returns-in-Compare-clause-trees : goal.returns-in-Compare-clause-trees

@@ -1,15 +1,7 @@
 -- The job is asked, and the station of the client takes turns.
 use Rattle.std.proofs.Common.{None, false, refl, sym, subst, ap, ◌∙◌}
-use Rattle.px_base.specs.CallSign.{CallSign}
-use Rattle.node.specs.Course.{at}
-use Rattle.node.specs.Events.{NodeEvents}
-use Rattle.node.specs.Lent.{seen}
-use Rattle.node.specs.Turns.{TookTurns, lent}
-use Rattle.ftl0_client.specs.Calls.{HasAsked}
-use Rattle.ftl0_client.specs.ClientState.{IsClient}
-use Rattle.uploader.specs.Stops.{answer_of}
-use Rattle.uploader.specs.Turns.Course.{client_course}
-use Rattle.uploader.specs.declared.turns.station.ClientStation.{ClientStation}
+use Rattle.node.specs.Turns.{lent}
+use Rattle.uploader.proofs.Names.{CallSign, at, NodeEvents, seen, TookTurns, HasAsked, IsClient, answer_of, client_course, ClientStation}
 use Rattle.uploader.proofs.turns.CarriedLemmas.{came-asked, carries, may-asked, refused-carries}
 use Rattle.uploader.proofs.turns.CourseLemmas.{owes-none}
 use Rattle.uploader.proofs.turns.carrying.carry_out.Goals as goal

@@ -1,12 +1,6 @@
 -- A frame is heard, and the event ends.
 use Rattle.std.proofs.Common.{◌≡◌, Err, rules, refl, sym, subst}
-use Rattle.std.specs.Prelude.{Result, ⊤}
-use Rattle.ax25_frames.specs.Values.{value_of}
-use Rattle.disk_model.specs.declared.halt.Halt.{Halt}
-use Rattle.ftl0_job.specs.Taking.{with_notes}
-use Rattle.ftl0_client.specs.Attempt.AttemptState.{Hears, PutsBy}
-use Rattle.ftl0_client.specs.Attempt.Hearing.{after_hearing, packets_heard}
-use Rattle.ftl0_client.specs.Attempt.Taking.{taking}
+use Rattle.ftl0_client.proofs.Names.{Result, ⊤, value_of, Halt, with_notes, Hears, PutsBy, after_hearing, packets_heard, taking}
 use Rattle.ftl0_client.proofs.attempt.HearLemmas.{hears-since}
 use Rattle.ftl0_client.proofs.attempt.attempt.Attempt.hear.Goals as goal
 

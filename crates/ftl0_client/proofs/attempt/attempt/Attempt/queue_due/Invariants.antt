@@ -1,5 +1,5 @@
 -- What is due is queued up to what is due now.
-use Rattle.ax25_link.specs.Queue.{room_of}
+use Rattle.ftl0_client.proofs.Names.{room_of}
 use Rattle.ftl0_client.proofs.attempt.Invariants.{IsQueuing}
 use Rattle.ftl0_client.proofs.attempt.attempt.Attempt.queue_due.Given as goal
 

@@ -1,15 +1,6 @@
 -- What is due was queued.
 use Rattle.std.proofs.Common.{◌≡◌, ◌≤◌, List, ℕ, ◌∙◌, subst, arith}
-use Rattle.ax25_link.specs.Calls.{after_push}
-use Rattle.ax25_link.specs.Kept.{StandsFor}
-use Rattle.ax25_link.specs.Queue.{room_of}
-use Rattle.ftl0_packets.specs.Layout.{packet_text}
-use Rattle.packet_link.specs.Queuing.{enough_free}
-use Rattle.packet_link.proofs.Queuing.{packet-some}
-use Rattle.ftl0_job.specs.Due.{next_due}
-use Rattle.ftl0_client.specs.Attempt.AttemptState.{AttemptState}
-use Rattle.ftl0_client.specs.Attempt.Feeding.{QueuesPacket}
-use Rattle.ftl0_client.specs.Attempt.Inside.{attempt_state}
+use Rattle.ftl0_client.proofs.Names.{after_push, StandsFor, room_of, packet_text, enough_free, packet-some, next_due, AttemptState, QueuesPacket, attempt_state}
 use Rattle.ftl0_client.proofs.attempt.SettlingLemmas.{due-put}
 use Rattle.ftl0_client.proofs.attempt.attempt.Attempt.queue_next.Goals as goal
 

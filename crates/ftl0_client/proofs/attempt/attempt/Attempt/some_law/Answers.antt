@@ -1,6 +1,5 @@
 use Rattle.std.proofs.Common.{subst}
-use Rattle.ftl0_client.specs.Attempt.AttemptState.{IsSomeAttempt}
-use Rattle.ftl0_client.specs.Attempt.Inside.{attempt_state}
+use Rattle.ftl0_client.proofs.Names.{IsSomeAttempt, attempt_state}
 use Rattle.ftl0_client.proofs.attempt.SomeLemmas.{some-attempt}
 use Rattle.ftl0_client.proofs.attempt.attempt.Attempt.some_law.Goals as goal
 

@@ -1,25 +1,8 @@
 -- What the link told decides what becomes of the attempt.
 use Rattle.std.proofs.Common.{rules, inl, inr, ◌≡◌, ◌++◌, ℕ, List, Option, Result, Ok, ap, refl, sym, subst, ◌∙◌}
-use Rattle.ax25_frames.specs.Values.{value_of}
-use Rattle.ax25_link.specs.declared.state.Heard.{Heard}
-use Rattle.ax25_link.specs.declared.state.Heard.TheVariants.{Bytes, Closed, Nothing, Opened, Reopened}
-use Rattle.ax25_link.specs.declared.state.Why.{Why}
-use Rattle.ax25_link.specs.Kept.{Tells}
-use Rattle.ax25_link.specs.Rows.{after_frame, heard_of}
-use Rattle.ax25_link.specs.Window.{Window}
-use Rattle.ftl0_packets.specs.Reading.{packets_of, under_way}
-use Rattle.ftl0_job.specs.JobState.{MayTake}
-use Rattle.ftl0_job.specs.Table.{JobState}
-use Rattle.ftl0_job.specs.Taking.{with_notes}
-use Rattle.ftl0_client.specs.Attempt.Attempted.{Attempted}
-use Rattle.ftl0_client.specs.Attempt.AttemptState.{AttemptState, HearsBy, IsAttempt, working}
-use Rattle.ftl0_client.specs.Attempt.Feeding.{TakesOctetsBy}
-use Rattle.ftl0_client.specs.Attempt.Hearing.{accepting, after_hearing, down_by, packets_heard, with_end}
-use Rattle.ftl0_client.specs.Attempt.Inside.{attempt_state}
-use Rattle.ftl0_client.specs.Attempt.Taking.{taking}
+use Rattle.ftl0_client.proofs.Names.{value_of, Heard, Bytes, Closed, Nothing, Opened, Reopened, Why, Tells, after_frame, heard_of, Window, packets_of, under_way, MayTake, JobState, with_notes, Attempted, AttemptState, HearsBy, IsAttempt, working, TakesOctetsBy, accepting, after_hearing, down_by, packets_heard, with_end, attempt_state, taking, Several-none, puts_same}
 use Rattle.ftl0_client.proofs.attempt.FeedLemmas.{hears-octets}
 use Rattle.ftl0_client.proofs.attempt.HearLemmas.{hears-puts, hears-told}
-use Rattle.client_notes.proofs.Offered.{Several-none, puts_same}
 use Rattle.ftl0_client.proofs.attempt.attempt.Attempt.take_frame.Goals as goal
 
 pub returns-in-Bytes-clause-takes : goal.returns-in-Bytes-clause-takes

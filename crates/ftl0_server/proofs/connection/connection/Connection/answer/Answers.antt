@@ -1,10 +1,6 @@
 -- A connection that is answered has greeted its caller, and nothing waits.
-use Rattle.std.proofs.lemmas.Grind.{common_steps}
 use Rattle.std.proofs.Common.{ap, ◌∙◌, arith}
-use Rattle.ax25_link.specs.Ends.{answering_end}
-use Rattle.ax25_link.specs.Window.{window_of}
-use Rattle.ftl0_packets.specs.Reading.{under_way}
-use Rattle.ftl0_session.specs.SessionState.{state_in}
+use Rattle.ftl0_server.proofs.Names.{common_steps, answering_end, window_of, under_way, state_in}
 use Rattle.ftl0_server.proofs.connection.connection.Connection.answer.Goals as goal
 
 pub returns : goal.returns

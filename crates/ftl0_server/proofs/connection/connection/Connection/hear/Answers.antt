@@ -1,11 +1,6 @@
 -- Behind the packets of a frame what is due is queued, where the connection goes on.
 use Rattle.std.proofs.Common.{◌≡◌, ◌⊎◌, inl, inr, refl, sym, subst, true, false}
-use Rattle.ax25_frames.specs.Values.{value_of}
-use Rattle.ax25_link.specs.Rows.{after_frame, heard_of}
-use Rattle.file_store.proofs.Offered.{known_on}
-use Rattle.file_store.specs.State.{IsKnown, store_on}
-use Rattle.ftl0_session.specs.SessionState.{state_in}
-use Rattle.ftl0_server.specs.Connection.Hearing.{NoneDue, parts_of_frame}
+use Rattle.ftl0_server.proofs.Names.{value_of, after_frame, heard_of, known_on, IsKnown, store_on, state_in, NoneDue, parts_of_frame}
 use Rattle.ftl0_server.proofs.connection.DueLemmas.{hears-going, hears-stop}
 use Rattle.ftl0_server.proofs.connection.FailureLemmas.{writes-none}
 use Rattle.ftl0_server.proofs.connection.FeedLemmas.{fit-queued}

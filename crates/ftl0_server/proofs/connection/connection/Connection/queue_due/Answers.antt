@@ -1,6 +1,6 @@
 -- What is due is queued, packet by packet, up to where nothing is, or fewer octets are free.
-use Rattle.std.proofs.lemmas.Grind.{common_steps}
 use Rattle.std.proofs.Common.{arith, refl, sym}
+use Rattle.ftl0_server.proofs.Names.{common_steps}
 use Rattle.ftl0_server.proofs.connection.DueLemmas.{keeps-then, queues-last, queues-then}
 use Rattle.ftl0_server.proofs.connection.FeedLemmas.{keeps-none}
 use Rattle.ftl0_server.proofs.connection.connection.Connection.queue_due.Goals as goal

@@ -1,5 +1,5 @@
 -- What was due was queued up to what is due now.
-use Rattle.ax25_link.specs.Queue.{room_of}
+use Rattle.ftl0_server.proofs.Names.{room_of}
 use Rattle.ftl0_server.proofs.connection.Invariants.{IsQueuing}
 use Rattle.ftl0_server.proofs.connection.connection.Connection.queue_due.Given as goal
 

@@ -1,17 +1,7 @@
 -- What is due was queued, or it stands as it stood.
-use Rattle.std.proofs.lemmas.Grind.{common_steps}
 use Rattle.std.proofs.Common.{◌≡◌, inl, inr, ◌<◌, ◌≤◌, ℕ, length, ap, sym, ◌∙◌, subst, arith}
-use Rattle.ax25_link.specs.Kept.{Kept}
-use Rattle.ax25_link.specs.Queue.{room_of}
-use Rattle.ftl0_packets.specs.Layout.{packet_text}
-use Rattle.file_store.proofs.Offered.{puts-among-reads}
-use Rattle.file_store.specs.State.{StoreState}
-use Rattle.ftl0_session.specs.SessionState.{state_in}
-use Rattle.ftl0_session.proofs.WorkingLemmas.{due-among, due-none}
-use Rattle.ftl0_server.specs.Connection.Feeding.{AreFree}
+use Rattle.ftl0_server.proofs.Names.{common_steps, Kept, room_of, packet_text, puts-among-reads, StoreState, state_in, due-among, due-none, AreFree, enough_free, stations-same}
 use Rattle.ftl0_server.proofs.connection.DueLemmas.{known-or, none-due}
-use Rattle.ftl0_server.specs.Connection.Taking.{enough_free}
-use Rattle.packet_link.proofs.Fronts.{stations-same}
 use Rattle.ftl0_server.proofs.connection.connection.Connection.queue_next.Goals as goal
 
 pub returns-then-not-fill-clause-next : goal.returns-then-not-fill-clause-next

@@ -1,25 +1,9 @@
 -- What the link told decides what becomes of the connection.
-use Rattle.std.proofs.lemmas.Grind.{common_steps}
 use Rattle.std.proofs.Common.{arith, ◌⊎◌, [], ◌++◌, inl, inr, ap, sym, ◌∙◌, refl, subst}
-use Rattle.ax25_frames.specs.Values.{value_of}
-use Rattle.ax25_link.specs.declared.state.Heard.{Heard}
-use Rattle.ax25_link.specs.declared.state.Heard.TheVariants.{Reopened, Bytes, Closed}
-use Rattle.ax25_link.specs.Kept.{Kept}
-use Rattle.ax25_link.specs.Rows.{after_frame}
-use Rattle.ftl0_packets.specs.Reading.{packets_of, under_way}
-use Rattle.file_store.specs.State.{IsKnown, store_on}
-use Rattle.ftl0_session.specs.Lists.Lists.{has_left}
-use Rattle.ftl0_session.specs.Run.{session_over}
-use Rattle.ftl0_session.specs.SessionState.{caller_of, working_on}
-use Rattle.ftl0_session.specs.Table.{command}
-use Rattle.ftl0_server.specs.Connection.Connected.{greeted}
-use Rattle.ftl0_server.specs.Connection.ConnectionState.{IsConnection}
-use Rattle.ftl0_server.specs.Connection.Hearing.{LooksAtNoneAs, with_end}
-use Rattle.ftl0_server.specs.Connection.Taking.{LookAtNone}
 use Rattle.ftl0_server.specs.Connection.Inside.{connection_state}
+use Rattle.ftl0_server.proofs.Names.{common_steps, value_of, Heard, Reopened, Bytes, Closed, Kept, after_frame, packets_of, under_way, IsKnown, store_on, has_left, session_over, caller_of, working_on, command, greeted, IsConnection, LooksAtNoneAs, with_end, LookAtNone, stations-then}
 use Rattle.ftl0_server.proofs.connection.FeedLemmas.{fit-anew, fit-heard}
 use Rattle.ftl0_server.proofs.connection.HearLemmas.{anew-at, gives-nothing, parks-same, parts-bytes, parts-on, parts-over, parts-quiet, parts-told, same-peer}
-use Rattle.packet_link.proofs.Fronts.{stations-then}
 use Rattle.ftl0_server.proofs.connection.OctetsLemmas.{hears-all, seen-octets}
 use Rattle.ftl0_server.proofs.connection.connection.Connection.take_frame.Goals as goal
 

@@ -1,7 +1,5 @@
 use Rattle.std.proofs.Common.{List, sym, subst}
-use Rattle.ftl0_session.specs.Lists.Lists.{CallerList}
-use Rattle.file_store.specs.State.{store_in}
-use Rattle.ftl0_session.specs.Downloads.Needs.{AreComplete}
+use Rattle.ftl0_session.proofs.Names.{CallerList, store_in, AreComplete}
 use Rattle.ftl0_session.proofs.downloads.ListLemmas.{after-files}
 use Rattle.ftl0_session.proofs.downloads.downloads.Downloads.download.Goals as goal
 

@@ -1,12 +1,6 @@
 use Rattle.std.proofs.Common.{◌≡◌, ◌==◌, ◌<◌, ℕ, List, length, take, refl, ap, sym, ◌∙◌, subst, arith, rules, true, false, true≢false, Some}
-use Rattle.std.proofs.lemmas.Bool.Decides.{nat_tests}
-use Rattle.ftl0_packets.specs.Layout.{data_end, data_part, dl_error_resp, packet_text}
-use Rattle.file_store.specs.State.{IsKnown, StoreState, store_in, store_on}
-use Rattle.file_store.specs.Store.{Store}
-use Rattle.file_store.proofs.Offered.{on_like, reads_same}
-use Rattle.ftl0_session.specs.Downloads.Needs.{IsDueIn}
-use Rattle.ftl0_session.specs.Downloads.Table.{DownloadState, ready}
-use Rattle.ftl0_session.specs.Downloads.Sending.{is_due, next_due, octets_due, octets_left, state_after, state_at_end}
+use Rattle.ftl0_session.specs.Downloads.Sending.{next_due}
+use Rattle.ftl0_session.proofs.Names.{nat_tests, data_end, data_part, dl_error_resp, packet_text, IsKnown, StoreState, store_in, store_on, Store, on_like, reads_same, IsDueIn, DownloadState, ready, is_due, octets_due, octets_left, state_after, state_at_end}
 use Rattle.ftl0_session.proofs.AnsweringLemmas.{left-after, left-some}
 use Rattle.ftl0_session.proofs.CauseLemmas.{end-no_error, part-no_error}
 use Rattle.ftl0_session.proofs.downloads.DueLemmas.{due-after}

@@ -1,12 +1,5 @@
 use Rattle.std.proofs.Common.{◌≡◌, ◌==◌, List, [], ℕ, length, true, false, true≢false, refl, ap, ◌∙◌, sym, subst, arith, rules}
-use Rattle.std.specs.List.{list_all}
-use Rattle.ftl0_session.specs.Lists.Lists.{CallerList}
-use Rattle.file_store.specs.State.{StoreState, store_in, store_on}
-use Rattle.file_store.specs.Store.{Store}
-use Rattle.file_store.proofs.Offered.{on_like, reads_none, reads_same}
-use Rattle.ftl0_session.specs.Downloads.Needs.{AreComplete, AreFiles}
-use Rattle.ftl0_session.specs.Downloads.Table.{directory_row, has_file, listing, lists_after}
-use Rattle.ftl0_session.specs.Downloads.Taking.{due_by, made_by}
+use Rattle.ftl0_session.proofs.Names.{list_all, CallerList, StoreState, store_in, store_on, Store, on_like, reads_none, reads_same, AreComplete, AreFiles, directory_row, has_file, listing, lists_after, due_by, made_by}
 use Rattle.ftl0_session.proofs.CauseLemmas.{says-nothing, says-refused}
 use Rattle.ftl0_session.proofs.downloads.LikeLemmas.{all-like, header-refused, made-is, made-refused, row-listed, row-missing, row-nothing, row-unread_header, rows-differ}
 use Rattle.ftl0_session.proofs.downloads.FileLemmas.{all-complete}

@@ -1,12 +1,7 @@
 use Rattle.std.proofs.Common.{◌≡◌, ◌<◌, ◌-◌, ◌++◌, [], ◌∷◌, ℕ, List, rules, length, map, take, drop, refl, sym, ◌∙◌, ap, subst}
-use Rattle.std.proofs.lemmas.List.{append-nil}
-use Rattle.file_store.specs.State.{store_in, store_on}
-use Rattle.ftl0_session.specs.Downloads.Sending.{is_read, joined, octets_due}
-use Rattle.ftl0_session.specs.Downloads.Spans.{due_of}
-use Rattle.ftl0_session.specs.Downloads.Table.{kept, listing}
 use Rattle.ftl0_session.specs.Downloads.View.{state_of}
 use Rattle.ftl0_session.specs.declared.downloads.downloads.Phase.{Phase}
-use Rattle.ftl0_session.specs.declared.downloads.span.Span.{Span}
+use Rattle.ftl0_session.proofs.Names.{append-nil, store_in, store_on, is_read, joined, octets_due, due_of, kept, listing, Span}
 use Rattle.ftl0_session.proofs.downloads.DueLemmas.{first-left, read-some}
 use Rattle.ftl0_session.proofs.downloads.ReadsLemmas.{at_error}
 use Rattle.ftl0_session.proofs.downloads.downloads.Downloads.read_part.Goals as goal

@@ -1,11 +1,7 @@
 use Rattle.std.proofs.Common.{◌≡◌, [], ◌∷◌, map, drop, Bool, None, false, inl, inr, ap, ◌∙◌, sym}
-use Rattle.std.specs.Option.{option_map}
-use Rattle.ftl0_packets.specs.Values.{value_of}
-use Rattle.file_store.specs.Store.{Store}
-use Rattle.ftl0_session.specs.Downloads.Spans.{due_of}
-use Rattle.ftl0_session.specs.Downloads.Table.{download_row, ended_row, kept, sending, waiting}
 use Rattle.ftl0_session.specs.Downloads.View.{state_of}
 use Rattle.ftl0_session.specs.declared.downloads.downloads.Phase.{Phase}
+use Rattle.ftl0_session.proofs.Names.{option_map, value_of, Store, due_of, download_row, ended_row, kept, sending, waiting}
 use Rattle.ftl0_session.proofs.FaultLemmas.{part-keeps}
 use Rattle.ftl0_session.proofs.downloads.TakeLemmas.{ended_by, not_taken, row_in_listing, row_in_sending, row_in_waiting}
 use Rattle.ftl0_session.proofs.downloads.downloads.Downloads.take.Goals as goal

@@ -1,13 +1,5 @@
 use Rattle.std.proofs.Common.{List, Bool, false, Option, ap, sym, ◌∙◌, refl}
-use Rattle.px_base.specs.CallSign.{CallSign}
-use Rattle.ftl0_packets.specs.Layout.{PacketValue}
-use Rattle.ftl0_packets.specs.Values.{value_of}
-use Rattle.file_store.specs.State.{store_in, store_on}
-use Rattle.file_store.specs.Store.{Store}
-use Rattle.file_store.proofs.Offered.{on_like}
-use Rattle.ftl0_session.specs.Lists.Lists.{CallerList}
-use Rattle.ftl0_session.specs.Downloads.Table.{DownloadRow, DownloadState, command_row, download_row, directory_row, download_cmd_row, long_due, ready, select_row, short_due}
-use Rattle.ftl0_session.specs.Downloads.Taking.{made}
+use Rattle.ftl0_session.proofs.Names.{CallSign, PacketValue, value_of, store_in, store_on, Store, on_like, CallerList, DownloadRow, DownloadState, command_row, download_row, directory_row, download_cmd_row, long_due, ready, select_row, short_due, made}
 use Rattle.ftl0_session.proofs.FaultLemmas.{part-keeps}
 use Rattle.ftl0_session.proofs.downloads.LikeLemmas.{cmd-like}
 use Rattle.ftl0_session.proofs.downloads.TakeLemmas.{download-is, long-is, no_row, not_taken, row_in_ready, select-is, short-is, taken_alone, taken_reading}

@@ -1,5 +1,5 @@
 use Rattle.std.proofs.Common.{◌∙◌, ap, length, List, sym, subst, arith, remove}
-use Rattle.ftl0_session.specs.Lists.Lists.{CallerList, IsLists}
+use Rattle.ftl0_session.proofs.Names.{CallerList, IsLists}
 use Rattle.ftl0_session.proofs.lists.Selecting.{room-at, room-full, room-left}
 use Rattle.ftl0_session.proofs.lists.lists.Lists.make_room.Goals as goal
 

@@ -1,5 +1,5 @@
 use Rattle.std.proofs.Common.{◌∙◌, ap, List, sym, subst, get_or}
-use Rattle.ftl0_session.specs.Lists.Lists.{CallerList, IsLists}
+use Rattle.ftl0_session.proofs.Names.{CallerList, IsLists}
 use Rattle.ftl0_session.proofs.lists.CallerLists.{left-at, left-nowhere}
 use Rattle.ftl0_session.proofs.lists.lists.Lists.numbers.Goals as goal
 

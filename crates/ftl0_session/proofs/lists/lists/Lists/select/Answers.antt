@@ -1,5 +1,5 @@
 use Rattle.std.proofs.Common.{◌∙◌, ap, Bool, List, [], ◌∷◌, ◌++◌, length, sym, subst, cond, le_trans, arith}
-use Rattle.ftl0_session.specs.Lists.Lists.{CallerList, IsLists, last_of, lists_of_others}
+use Rattle.ftl0_session.proofs.Names.{CallerList, IsLists, last_of, lists_of_others}
 use Rattle.ftl0_session.proofs.lists.Selecting.{IsLists-selected, one-more}
 use Rattle.ftl0_session.proofs.lists.lists.Lists.select.Goals as goal
 

@@ -1,5 +1,5 @@
 use Rattle.std.proofs.Common.{ℕ, ◌∙◌, ap, List, length, ◌≤◌, sym, subst, get_or, position, set}
-use Rattle.ftl0_session.specs.Lists.Lists.{CallerList, IsLists, is_of}
+use Rattle.ftl0_session.proofs.Names.{CallerList, IsLists, is_of}
 use Rattle.ftl0_session.proofs.lists.CallerLists.{left-at}
 use Rattle.ftl0_session.proofs.lists.Taking.{IsLists-taken, taken-at, taken-nowhere}
 use Rattle.ftl0_session.proofs.lists.lists.Lists.take.Goals as goal

@@ -1,10 +1,7 @@
 -- The upload of the session is given up, and the files stay.
 use Rattle.std.proofs.Common.{◌≡◌, ap, sym, ◌∙◌, subst}
-use Rattle.file_store.specs.State.{store_in}
-use Rattle.file_store.proofs.Offered.{in_parked}
-use Rattle.ftl0_session.specs.declared.uploads.phase.Phase.{Phase}
 use Rattle.ftl0_session.specs.declared.uploads.phase.Phase.TheVariants as phase
-use Rattle.ftl0_session.specs.Uploads.SessionState.{NoOtherOut, PhaseIsHeld, SessionState, number_of}
+use Rattle.ftl0_session.proofs.Names.{store_in, in_parked, Phase, NoOtherOut, PhaseIsHeld, SessionState, number_of}
 use Rattle.ftl0_session.proofs.uploads.HoldLemmas.{own-entry}
 use Rattle.ftl0_session.proofs.uploads.OtherLemmas.{changes-same, only-none, others-kept}
 use Rattle.ftl0_session.proofs.uploads.session.Session.end.Goals as goal

@@ -1,12 +1,6 @@
 -- The phase that the session goes on to is the one that was answered.
 use Rattle.std.proofs.Common.{◌≡◌, ap, ap₂, sym, ◌∙◌, subst}
-use Rattle.px_base.specs.CallSign.{CallSign}
-use Rattle.ftl0_packets.specs.Values.{item_of}
-use Rattle.ftl0_session.specs.declared.uploads.phase.Phase.{Phase}
-use Rattle.disk_model.specs.AtDisk.{at}
-use Rattle.ftl0_session.specs.Uploads.Events.{packet_of}
-use Rattle.ftl0_session.specs.Uploads.SessionState.{IsHeld, IsOnlyOut, SessionState, state_of}
-use Rattle.ftl0_session.specs.Uploads.Taking.{TakesPacket, working_at}
+use Rattle.ftl0_session.proofs.Names.{CallSign, item_of, Phase, at, packet_of, IsHeld, IsOnlyOut, SessionState, state_of, TakesPacket, working_at}
 use Rattle.ftl0_session.proofs.uploads.session.Session.take.Goals as goal
 
 -- a session by its parts

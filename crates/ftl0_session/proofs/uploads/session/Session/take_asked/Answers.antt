@@ -1,8 +1,6 @@
 -- What is asked in each phase, by what is asked in its state.
 use Rattle.std.proofs.Common.{ap, sym}
-use Rattle.ftl0_session.specs.Uploads.Session.{aborting}
-use Rattle.ftl0_session.specs.Uploads.Events.{packet_of}
-use Rattle.ftl0_session.specs.Uploads.SessionState.{SessionState}
+use Rattle.ftl0_session.proofs.Names.{aborting, packet_of, SessionState}
 use Rattle.ftl0_session.proofs.uploads.DoesLemmas.{answered-alone}
 use Rattle.ftl0_session.proofs.uploads.session.Session.take_asked.Goals as goal
 

@@ -1,20 +1,8 @@
 -- DATA_END: its row, or code 3.
 use Rattle.std.proofs.Common.{◌≡◌, ◌⊎◌, ℕ, List, [], ◌∷◌, refl, ap, sym, ◌∙◌, subst, inl, inr, eq-eqb, Option, None, Some, true, false, true≢false}
-use Rattle.std.specs.Prelude.{Ok, ⊤}
-use Rattle.pfh_items.specs.Faults.{fault_code}
-use Rattle.ftl0_packets.specs.Layout.{Item, data_end, ul_ack_resp, ul_nak_resp}
-use Rattle.file_store.specs.Command.{Command, last_grow}
-use Rattle.file_store.specs.EntriesKept.{KeepsComplete}
-use Rattle.file_store.specs.Files.{KeepsRests}
-use Rattle.file_store.specs.Kept.{ChangesEntry}
-use Rattle.file_store.specs.State.{store_in, store_on}
-use Rattle.file_store.specs.Store.{Store}
-use Rattle.file_store.specs.Upload.{octets_come, sealing, waiting}
-use Rattle.file_store.proofs.Offered.{among-parked, among-same, in_parked, on_like, stands_parked}
+use Rattle.file_store.specs.Upload.{waiting}
 use Rattle.ftl0_session.specs.declared.uploads.phase.Phase.TheVariants as phase
-use Rattle.ftl0_session.specs.Uploads.Events.{packet_of}
-use Rattle.ftl0_session.specs.Uploads.Session.{command, unread_row, whole_row}
-use Rattle.ftl0_session.specs.Uploads.SessionState.{receiving_of}
+use Rattle.ftl0_session.proofs.Names.{Ok, ⊤, fault_code, Item, data_end, ul_ack_resp, ul_nak_resp, Command, last_grow, KeepsComplete, KeepsRests, ChangesEntry, store_in, store_on, Store, octets_come, sealing, among-parked, among-same, in_parked, on_like, stands_parked, packet_of, command, unread_row, whole_row, receiving_of}
 use Rattle.ftl0_session.proofs.uploads.DoesLemmas.{answered-alone, takes-among, takes-fault}
 use Rattle.ftl0_session.proofs.uploads.HoldLemmas.{end-looks, own-entry, parked, sealing-some, short, unread, whole, whole-sealing}
 use Rattle.ftl0_session.proofs.CauseLemmas.{says-one}

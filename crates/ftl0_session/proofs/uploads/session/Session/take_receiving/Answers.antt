@@ -2,8 +2,7 @@
 use Rattle.std.proofs.Common.{refl, ap, sym}
 use Rattle.file_store.specs.Upload.{waiting}
 use Rattle.ftl0_session.specs.declared.uploads.phase.Phase.TheVariants as phase
-use Rattle.ftl0_session.specs.Uploads.Events.{packet_of}
-use Rattle.ftl0_session.specs.Uploads.SessionState.{SessionState, receiving_of}
+use Rattle.ftl0_session.proofs.Names.{packet_of, SessionState, receiving_of}
 use Rattle.ftl0_session.proofs.uploads.DoesLemmas.{answered-alone}
 use Rattle.ftl0_session.proofs.uploads.Rows.{alone-refused, error-receiving}
 use Rattle.ftl0_session.proofs.uploads.session.Session.take_receiving.Goals as goal

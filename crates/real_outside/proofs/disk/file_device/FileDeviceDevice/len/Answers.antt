@@ -1,8 +1,6 @@
 use Rattle.std.proofs.Common.{[], ◌∷◌, Some, Result, refl, sym, ap, ℕ}
-use Rattle.real_outside.specs.Disk.FileDevices.{AsksLength, FileDeviceState}
 use Rattle.real_outside.specs.declared.files.file_call.FileCall.TheVariants as call
-use Rattle.real_outside.specs.declared.system_error.SystemError.{SystemError}
-use Rattle.px_base.proofs.Told.{asks_one}
+use Rattle.real_outside.proofs.Names.{AsksLength, FileDeviceState, SystemError, asks_one}
 use Rattle.real_outside.proofs.Taken.{taken_then}
 use Rattle.real_outside.proofs.disk.file_device.FileDeviceDevice.len.Goals as goal
 

@@ -1,9 +1,7 @@
 use Rattle.std.proofs.Common.{◌≡◌, ℕ, List, [], ◌∷◌, length, Some, Result, refl, sym, ◌∙◌, ap}
-use Rattle.real_outside.specs.Disk.FileDevices.{FileDeviceState, Reads}
 use Rattle.real_outside.specs.Files.{octets_read}
 use Rattle.real_outside.specs.declared.files.file_call.FileCall.TheVariants as call
-use Rattle.real_outside.specs.declared.system_error.SystemError.{SystemError}
-use Rattle.px_base.proofs.Told.{asks_one}
+use Rattle.real_outside.proofs.Names.{FileDeviceState, Reads, SystemError, asks_one}
 use Rattle.real_outside.proofs.Taken.{taken_then}
 use Rattle.real_outside.proofs.disk.file_device.FileDeviceDevice.read.Goals as goal
 

@@ -1,7 +1,5 @@
 use Rattle.std.proofs.Common.{◌≡◌, Some, refl, sym, ◌∙◌, ap}
-use Rattle.real_outside.specs.Disk.FileDevices.{FileDeviceState, SyncsFile, SyncsWithEntry}
-use Rattle.real_outside.specs.Files.{folder_of}
-use Rattle.px_base.proofs.Told.{asks_as}
+use Rattle.real_outside.proofs.Names.{FileDeviceState, SyncsFile, SyncsWithEntry, folder_of, asks_as}
 use Rattle.real_outside.proofs.Taken.{taken_then}
 use Rattle.real_outside.proofs.disk.file_device.FileDeviceDevice.sync.Goals as goal
 

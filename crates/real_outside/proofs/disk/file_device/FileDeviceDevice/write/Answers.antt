@@ -1,7 +1,6 @@
 use Rattle.std.proofs.Common.{Some, refl, ap}
-use Rattle.real_outside.specs.Disk.FileDevices.{FileDeviceState, Writes}
-use Rattle.real_outside.specs.Files.{WritesOnce}
-use Rattle.px_base.proofs.Told.{asks_as}
+use Rattle.real_outside.specs.Disk.FileDevices.{Writes}
+use Rattle.real_outside.proofs.Names.{FileDeviceState, WritesOnce, asks_as}
 use Rattle.real_outside.proofs.Taken.{taken_then}
 use Rattle.real_outside.proofs.disk.file_device.FileDeviceDevice.write.Goals as goal
 

@@ -1,9 +1,6 @@
 -- A frame is given, or all was given.
 use Rattle.std.proofs.Common.{sym, subst, ◌∙◌}
-use Rattle.node.specs.Course.{GaveAll, at}
-use Rattle.ftl0_client.specs.ClientState.{ClientState}
-use Rattle.uploader.specs.Turns.Course.{client_course}
-use Rattle.uploader.specs.declared.turns.station.ClientStation.{ClientStation}
+use Rattle.uploader.proofs.Names.{GaveAll, at, ClientState, client_course, ClientStation}
 use Rattle.uploader.proofs.turns.CourseLemmas.{gave-all, gives-next, hands-none}
 use Rattle.uploader.proofs.turns.station.ClientStationStation.next_out.Goals as goal
 

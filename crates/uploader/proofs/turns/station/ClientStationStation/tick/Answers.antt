@@ -1,10 +1,6 @@
 -- A tick is taken.
-use Rattle.node.specs.Course.{at}
-use Rattle.node.specs.Events.{ticks}
-use Rattle.ftl0_client.proofs.KeptLemmas.{may-kept}
-use Rattle.uploader.specs.declared.turns.station.ClientStation.{ClientStation}
+use Rattle.uploader.proofs.Names.{at, ticks, may-kept, ClientStation, does-nothing}
 use Rattle.uploader.proofs.turns.CourseLemmas.{event-taken}
-use Rattle.client_notes.proofs.Offered.{does-nothing}
 use Rattle.uploader.proofs.turns.station.ClientStationStation.tick.Goals as goal
 
 pub returns-clause-takes : goal.returns-clause-takes
