@@ -4,7 +4,8 @@ use Rattle.std.proofs.Common.{◌≡◌, ◌⊎◌, inl, inr, ⊎_elim, ℕ, zer
 use Rattle.px_base.specs.Octets.{IsFront}
 use Rattle.disk_model.specs.declared.disk.Disk.{Ghosts}
 use Rattle.file_journal.specs.Through.{HadRoom, StandsThrough}
-use Rattle.file_journal.proofs.Offered.{done_stay, front_done, rises_all, told_weaker}
+use Rattle.file_journal.proofs.Offered.{done_stay, front_done, rises_all}
+use Rattle.disk_model.proofs.Offered.{told_weaker}
 use Rattle.file_store.specs.Command.{AreAllowed, Command, after_all, last_grow, seal}
 use Rattle.file_store.specs.OnDisk.{MakesBetween}
 use Rattle.file_store.specs.State.{IsKnown, store_form}

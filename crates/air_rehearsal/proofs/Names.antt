@@ -83,17 +83,18 @@ pub use Rattle.client_notes.specs.State.{NotesState, StandsFor}
 pub use Rattle.client_notes.specs.declared.answers.Begun.{Begun}
 pub use Rattle.client_notes.specs.declared.progress.Progress.{Progress}
 pub use Rattle.client_notes.specs.declared.refusals.NotesRefusal.{NotesRefusal}
+pub use Rattle.disk_model.proofs.Offered.{alike_on, alike_same, at_told, changes_none, if_told, joined, reads, reads_now, started, told_weaker, weaker}
 pub use Rattle.disk_model.specs.AtDisk.{AtDisk, at}
 pub use Rattle.disk_model.specs.Cuts.{AreFresh, Arming, ArmsOnly, Cuts, Failed, FailsSo, IsFresh, LastsSo, Passes, Unarmed, UsesUp, cut_state, cuts_by}
 pub use Rattle.disk_model.specs.Disk.{IsTold}
 pub use Rattle.disk_model.specs.Moments.{LeavesOnly}
+pub use Rattle.disk_model.specs.Runs.{ChangesReads, CountsSome, EachImage, IsQuietNow, Leaves, TellsAlike, images_now}
 pub use Rattle.disk_model.specs.declared.disk.Disk.{Ghosts}
 pub use Rattle.disk_model.specs.declared.disk.DiskFault.{DiskFault}
 pub use Rattle.disk_model.specs.declared.halt.Halt.{Halt}
 pub use Rattle.file_entries.specs.Command.{Command, DropsNothing, after_all, begin, drop_entry, grow, seal}
 pub use Rattle.file_entries.specs.Follows.{Follows, FollowsLaw}
-pub use Rattle.file_journal.proofs.Offered.{alike_on, alike_same, at_told, changes_none, cut_makes, first_all, if_told, joined, makes_within, reads, reads_now, room_always, started, told_weaker, weaker, within_most}
-pub use Rattle.file_journal.specs.Calls.{ChangesReads, EachImage, IsQuietNow, Leaves, TellsAlike, images_now}
+pub use Rattle.file_journal.proofs.Offered.{cut_makes, first_all, makes_within, room_always, within_most}
 pub use Rattle.file_journal.specs.Form.{Form}
 pub use Rattle.file_journal.specs.Journal.{journal_of}
 pub use Rattle.file_journal.specs.Kept.{HasRoomFor, alone}

@@ -5,10 +5,10 @@ use Rattle.std.proofs.Common.{arith, length-append}
 use Rattle.std.specs.Prelude.{◌&&◌, ◌||◌}
 use Rattle.px_base.specs.Outside.{Rose}
 use Rattle.disk_model.specs.CutLaws.{reads_stay}
-use Rattle.file_journal.specs.AmongReads.{CountsSome, among_reads}
+use Rattle.file_journal.specs.AmongReads.{among_reads}
 use Rattle.file_store.specs.State.{StandsFor}
 use Rattle.file_store.specs.Working.{CutsOffAmongReads, DoesAmongReads}
-use Rattle.air_rehearsal.proofs.Names.{is_ok, ⊤, cases_Bool, AtDisk, at, Arming, Cuts, Failed, FailsSo, LastsSo, Passes, UsesUp, cut_state, IsTold, Ghosts, DiskFault, Command, DropsNothing, after_all, EachImage, Leaves, TellsAlike, images_now, HasRoomFor, at_told, cut_makes, told_weaker, weaker, MakesBetween, MakesFirst, after_first, kept_at, IsReady, StoreState, store_form, store_on, Store, after_first-all, cuts-among-all, makes-first, makes-within, room_for, Failure, NoReadFails, failed_reads, failed_write, Hears, Server, ServerHappened, IsServer, ServerState, happening, NodeEvent, FrontOfEventLaw, MissesLaw, begun_in, NoneGone, World, StandsNow, least_done, the_server, IsSteady}
+use Rattle.air_rehearsal.proofs.Names.{CountsSome, is_ok, ⊤, cases_Bool, AtDisk, at, Arming, Cuts, Failed, FailsSo, LastsSo, Passes, UsesUp, cut_state, IsTold, Ghosts, DiskFault, Command, DropsNothing, after_all, EachImage, Leaves, TellsAlike, images_now, HasRoomFor, at_told, cut_makes, told_weaker, weaker, MakesBetween, MakesFirst, after_first, kept_at, IsReady, StoreState, store_form, store_on, Store, after_first-all, cuts-among-all, makes-first, makes-within, room_for, Failure, NoReadFails, failed_reads, failed_write, Hears, Server, ServerHappened, IsServer, ServerState, happening, NodeEvent, FrontOfEventLaw, MissesLaw, begun_in, NoneGone, World, StandsNow, least_done, the_server, IsSteady}
 use Rattle.air_rehearsal.proofs.PartLemmas.{least_most}
 
 pub told-content : (content : Option (List ℕ)) → IsTold content → (octets : List ℕ) × (content ≡ Some octets)

@@ -2,7 +2,7 @@
 use Rattle.std.specs.Prelude.{◌≡◌, ℕ, ◌-◌, ◌<◌, List, [], ◌∷◌, false, Option, None, Some, IfSome}
 use Rattle.disk_model.specs.Cuts.{ArmsOnly, Cuts, KeepsPast, LosesPower}
 use Rattle.disk_model.specs.declared.disk.Disk.{Ghosts}
-use Rattle.file_journal.specs.Calls.{IsQuietNow, Leaves, TellsAlike}
+use Rattle.disk_model.specs.Runs.{IsQuietNow, Leaves, TellsAlike}
 use Rattle.air_world.specs.Schedule.{Event}
 use Rattle.air_world.specs.World.{World}
 use Rattle.air_rehearsal.specs.Standing.{Makes, StandsAlike, StandsDuring, StandsFor, StandsNow, least_done}

@@ -7,7 +7,7 @@ use Rattle.pfh_items.specs.Faults.{fault_code, field_of}
 use Rattle.pfh_items.specs.Layout.{ItemValue}
 use Rattle.pfh_items.specs.Stamp.{stamped}
 use Rattle.disk_model.specs.declared.disk.Disk.{Ghosts}
-use Rattle.file_journal.specs.Calls.{ChangesReads}
+use Rattle.disk_model.specs.Runs.{ChangesReads}
 use Rattle.file_store.specs.Reads.{StaysReady}
 use Rattle.file_store.specs.State.{IsKnown, StoreState, store_on}
 use Rattle.air_files.specs.Uploads.{upload_file}

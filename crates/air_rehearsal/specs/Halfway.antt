@@ -6,7 +6,7 @@ use Rattle.disk_model.specs.Cuts.{ArmsOnly, Cuts, KeepsPast, LosesPower}
 use Rattle.disk_model.specs.Disk.{IsTold}
 use Rattle.disk_model.specs.Moments.{LeavesOnly}
 use Rattle.disk_model.specs.declared.disk.Disk.{Ghosts}
-use Rattle.file_journal.specs.Calls.{Leaves, TellsAlike}
+use Rattle.disk_model.specs.Runs.{Leaves, TellsAlike}
 use Rattle.ftl0_server.specs.ServerState.{ServerState}
 use Rattle.air_world.specs.Events.{ClientPart}
 use Rattle.air_world.specs.Lawful.{IsAllowed}

@@ -3,7 +3,7 @@ use Rattle.std.specs.Prelude.{◌≡◌, ℕ, ◌≤◌, List, [], length, slice
 use Rattle.px_base.specs.CallSign.{CallSign}
 use Rattle.disk_model.specs.Cuts.{Cuts}
 use Rattle.disk_model.specs.declared.disk.Disk.{Ghosts}
-use Rattle.file_journal.specs.Calls.{EachImage}
+use Rattle.disk_model.specs.Runs.{EachImage}
 use Rattle.ax25_link.specs.Window.{window_of}
 use Rattle.client_notes.specs.State.{StandsFor}
 use Rattle.air_attempt.specs.Party.{first_party}

@@ -8,7 +8,7 @@ use Rattle.disk_model.specs.Cuts.{Cuts, Failed}
 use Rattle.disk_model.specs.declared.disk.Disk.{Ghosts}
 use Rattle.disk_model.specs.declared.halt.Halt.{Halt}
 use Rattle.disk_model.specs.declared.halt.Halt.TheVariants as halt
-use Rattle.file_journal.specs.Calls.{EachImage}
+use Rattle.disk_model.specs.Runs.{EachImage}
 use Rattle.ax25_link.specs.Window.{window_of}
 use Rattle.client_notes.specs.Command.{NotesCommand}
 use Rattle.client_notes.specs.Notes.{Lists, task_count}

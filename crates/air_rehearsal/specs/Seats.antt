@@ -3,7 +3,7 @@ use Rattle.std.specs.Prelude.{◌≡◌, ℕ, ◌+◌, ◌%◌, ◌^◌, List, [
 use Rattle.std.specs.Prelude.{Some}
 use Rattle.disk_model.specs.Cuts.{Cuts}
 use Rattle.disk_model.specs.declared.disk.Disk.{Ghosts}
-use Rattle.file_journal.specs.Calls.{EachImage}
+use Rattle.disk_model.specs.Runs.{EachImage}
 use Rattle.client_notes.specs.State.{StandsFor}
 use Rattle.ftl0_client.specs.Outcomes.{outcome_by}
 use Rattle.ftl0_server.specs.ServerState.{ServerState}

@@ -6,7 +6,7 @@ use Rattle.ax25_link.specs.Window.{window_of}
 use Rattle.disk_model.specs.Cuts.{ArmsOnly, Cuts}
 use Rattle.disk_model.specs.declared.disk.Disk.{Ghosts}
 use Rattle.disk_model.specs.declared.disk.DiskFault.{DiskFault}
-use Rattle.file_journal.specs.Calls.{EachImage}
+use Rattle.disk_model.specs.Runs.{EachImage}
 use Rattle.file_journal.specs.Walk.{state}
 use Rattle.file_store.specs.State.{StandsFor, standing_of, store_on}
 use Rattle.file_store.specs.Store.{Store}

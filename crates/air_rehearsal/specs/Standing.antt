@@ -2,7 +2,7 @@
 use Rattle.std.specs.Prelude.{◌≡◌, ℕ, List, length, Some}
 use Rattle.disk_model.specs.Cuts.{Arming, Failed, Passes, Unarmed}
 use Rattle.disk_model.specs.declared.disk.Disk.{Ghosts}
-use Rattle.file_journal.specs.Calls.{images_now}
+use Rattle.disk_model.specs.Runs.{images_now}
 use Rattle.file_journal.specs.Commands.{done_within}
 use Rattle.file_journal.specs.Form.{Form}
 use Rattle.node.specs.Events.{NodeEvent}

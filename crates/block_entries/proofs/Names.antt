@@ -27,7 +27,9 @@ pub use Rattle.block_entries.specs.declared.file_blocks.FileBlocks.{FileBlocks}
 pub use Rattle.block_entries.specs.declared.file_check.FileCheck.{FileCheck}
 pub use Rattle.block_entries.specs.declared.stored_file.SealMark.{SealMark}
 pub use Rattle.block_table.specs.Table.{Run, Table, new_run, rooms_of, run_at, times_of, with_block}
+pub use Rattle.disk_model.proofs.Offered.{reads_on, reads_same, told_weaker}
 pub use Rattle.disk_model.specs.Disk.{FillsRoom, IsTold}
+pub use Rattle.disk_model.specs.Runs.{Reads, images_now}
 pub use Rattle.disk_model.specs.declared.disk.Disk.{Ghosts}
 pub use Rattle.file_entries.proofs.Offered.{begin-allowed, blocks-map-changed, both-true, faultless-code, good-partial, grow-is_allowed, grow-takes, header-of, header_short, items-text, passes-entry, whole-of}
 pub use Rattle.file_entries.specs.Command.{AreAllowed, Command, DropsNothing, KeepsFile, MayBegin, after_all, can_begin, can_take, is_good, kept_with, passes, with_holding, with_more}
@@ -36,8 +38,7 @@ pub use Rattle.file_entries.specs.IsStore.{AreEntries, FitsLength, HaveCallers, 
 pub use Rattle.file_entries.specs.Limits.{last_next, longest_file, most_entries}
 pub use Rattle.file_entries.specs.Store.{Entry, Holding, Store, blocks_for, complete, entry_of, holding_of, new_entry, octets_of, partial, store_from}
 pub use Rattle.file_entries.specs.declared.info.Info.{Info}
-pub use Rattle.file_journal.proofs.Offered.{Written, after_stands, are_made, octets_joined, octets_part, reads_on, reads_same, room_within, stands_after, stepped, steps, told_weaker}
-pub use Rattle.file_journal.specs.Calls.{Reads, images_now}
+pub use Rattle.file_journal.proofs.Offered.{Written, after_stands, are_made, octets_joined, octets_part, room_within, stands_after, stepped, steps}
 pub use Rattle.file_journal.specs.Kept.{HasRoomFor, StandsAt}
 pub use Rattle.file_journal.specs.Layout.{Blocks, HasBlocks, HoldSame, block_in, blocks_on, half_in, half_size}
 pub use Rattle.file_journal.specs.Position.{Position, StandsAmong}

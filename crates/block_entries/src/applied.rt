@@ -11,7 +11,7 @@ ghost use Rattle.block_entries.specs.PlacedFiles.{NothingOut, placed_info, read_
 ghost use Rattle.block_entries.specs.PlacedRecords.{CanRecord};
 ghost use Rattle.block_entries.specs.ReadStore.{IsReadStore};
 ghost use Rattle.block_entries.specs.TestLaws.{TakesSeal};
-ghost use Rattle.file_journal.specs.Calls.{Reads};
+ghost use Rattle.disk_model.specs.Runs.{Reads};
 ghost use Rattle.file_journal.specs.Layout.{Blocks};
 
 use crate::recorded::Recorded;

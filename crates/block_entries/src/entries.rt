@@ -24,7 +24,7 @@ ghost use Rattle.block_table.specs.Table.{Table};
 ghost use Rattle.disk_model.specs.Disk.{FillsRoom, IsTold};
 ghost use Rattle.file_entries.specs.Bars.{Bars};
 ghost use Rattle.file_entries.specs.Command.{MayBegin};
-ghost use Rattle.file_journal.specs.Calls.{Reads};
+ghost use Rattle.disk_model.specs.Runs.{Reads};
 ghost use Rattle.file_journal.specs.Layout.{Blocks, blocks_on};
 
 use crate::limits::blocks_of_length;

@@ -3,7 +3,7 @@
 ghost use Rattle.std.specs.Prelude.{◌≡◌, ◌+◌, ◌%◌, ◌<◌, ◌≤◌, length, IsErr, OnOk};
 ghost use Rattle.block_entries.specs.Reading.{StandsIn, octets_on};
 ghost use Rattle.disk_model.specs.Disk.{FillsRoom, IsTold};
-ghost use Rattle.file_journal.specs.Calls.{Reads};
+ghost use Rattle.disk_model.specs.Runs.{Reads};
 
 use crate::BlockReader;
 use block_table::BlockTable;

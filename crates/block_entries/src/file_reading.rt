@@ -5,7 +5,7 @@ ghost use Rattle.block_entries.specs.Checking.{IsFaultCode, IsSealable, stamp_of
 ghost use Rattle.block_entries.specs.Reading.{StandsIn, octets_on};
 ghost use Rattle.block_entries.specs.Sealed.{IsSealedFile, sealed_octets};
 ghost use Rattle.disk_model.specs.Disk.{FillsRoom, IsTold};
-ghost use Rattle.file_journal.specs.Calls.{Reads};
+ghost use Rattle.disk_model.specs.Runs.{Reads};
 ghost use Rattle.pfh_items.specs.Faults.{fault_code};
 ghost use Rattle.px_base.specs.CallSign.{IsCall};
 

@@ -4,7 +4,7 @@ ghost use Rattle.std.specs.Prelude.{◌≡◌, ◌≤◌, length, vec_capacity, 
 ghost use Rattle.block_entries.specs.Reading.{StandsIn, octets_on};
 ghost use Rattle.block_entries.specs.Sealed.{IsSealedFile, IsSealedHeader, sealed_octets};
 ghost use Rattle.disk_model.specs.Disk.{IsTold};
-ghost use Rattle.file_journal.specs.Calls.{Reads};
+ghost use Rattle.disk_model.specs.Runs.{Reads};
 
 use crate::file_reading::is_call;
 use crate::{BlockReader, SealedFile, read_stamped};

@@ -4,7 +4,7 @@ ghost use Rattle.std.specs.Prelude.{◌≡◌, ◌≤◌, ℕ, List, ◌++◌, l
 ghost use Rattle.block_entries.specs.Checking.{HasChecked, HasPassed, StampSetting};
 ghost use Rattle.block_entries.specs.Reading.{StandsIn, octets_on};
 ghost use Rattle.block_entries.specs.Taking.{HasRoomFor, IsFresh, TookFront};
-ghost use Rattle.file_journal.specs.Calls.{Reads};
+ghost use Rattle.disk_model.specs.Runs.{Reads};
 ghost use Rattle.pfh_items.specs.Stamp.{StampValue};
 
 use crate::file_blocks::{part_len, read_part};

@@ -3,7 +3,7 @@
 ghost use Rattle.std.specs.Prelude.{◌≡◌, ℕ, ◌+◌, ◌<◌, ◌≤◌, length, IsErr, OnOk};
 ghost use Rattle.block_entries.specs.Reading.{MayRead, MayReadKept, block_octets};
 ghost use Rattle.disk_model.specs.Disk.{FillsRoom, IsTold};
-ghost use Rattle.file_journal.specs.Calls.{Reads};
+ghost use Rattle.disk_model.specs.Runs.{Reads};
 ghost use Rattle.file_journal.specs.Steps.{kept_by};
 
 use disk_model::{Disk, DiskFault};

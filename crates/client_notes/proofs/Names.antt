@@ -14,10 +14,11 @@ pub use Rattle.client_notes.specs.Recovery.{AnswersRecovery, IsRecovered, Recove
 pub use Rattle.client_notes.specs.Several.{CutsOff, DoesSeveral, MakesBetween, MakesFirst, after_first, notes_on}
 pub use Rattle.client_notes.specs.State.{IsReady, NotesState, StandsFor, StandsOn}
 pub use Rattle.client_notes.specs.declared.progress.Progress.{Progress}
+pub use Rattle.disk_model.proofs.Offered.{alike_on, at_told, if_told, stops_on, told_before, told_weaker, weaker}
+pub use Rattle.disk_model.specs.Runs.{CountsFault, Runs, images_now}
 pub use Rattle.disk_model.specs.declared.disk.Disk.{Ghosts}
 pub use Rattle.disk_model.specs.declared.disk.DiskFault.{DiskFault}
-pub use Rattle.file_journal.proofs.Offered.{Written, after_all_append, after_stands, alike_on, allowed_append, allowed_first, allowed_split, at_told, does_longer, does_none, does_same, does_then, eight, first_then, four, held_kept, if_some, if_told, images_here, le32_below, makes_first, makes_within, map_some, number_at, number_front, octet_at, octets_call, octets_drop, octets_joined, octets_le32, octets_one, octets_part, paced_always, paces_exactly, room_always, runs_same, stands_after, stepped, steps, stops_on, told_before, told_weaker, weaker, written_step}
-pub use Rattle.file_journal.specs.Calls.{CountsFault, Runs, images_now}
+pub use Rattle.file_journal.proofs.Offered.{Written, after_all_append, after_stands, allowed_append, allowed_first, allowed_split, does_longer, does_none, does_same, does_then, eight, first_then, four, held_kept, if_some, images_here, le32_below, makes_first, makes_within, map_some, number_at, number_front, octet_at, octets_call, octets_drop, octets_joined, octets_le32, octets_one, octets_part, paced_always, paces_exactly, room_always, runs_same, stands_after, stepped, steps, written_step}
 pub use Rattle.file_journal.specs.Commands.{StayDone, done_at}
 pub use Rattle.file_journal.specs.Kept.{IsKept, KeptOn, StandsAt, alone, kept_on}
 pub use Rattle.file_journal.specs.Position.{Position}

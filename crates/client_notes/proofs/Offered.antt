@@ -8,4 +8,5 @@ pub use Rattle.client_notes.proofs.SeveralLemmas.{after_all-append, after_first-
 pub use Rattle.client_notes.proofs.StartLemmas.{acked-last, begun-fresh, begun-kept, IsOfTask, not-failed, of_task}
 pub use Rattle.client_notes.proofs.TaskLemmas.{acked-stays, both-left, task-after, task-at, task-more}
 pub use Rattle.client_notes.proofs.ThroughLemmas.{GoesThrough, goes_through}
-pub use Rattle.file_journal.proofs.Offered.{alike_on, alike_same, at_told, counts_none, if_told, joined, puts_on, puts_same, runs_same, stops_none, stops_on, told_before, told_weaker, weaker}
+pub use Rattle.file_journal.proofs.Offered.{runs_same}
+pub use Rattle.disk_model.proofs.Offered.{alike_on, alike_same, at_told, if_told, joined, told_before, told_weaker, weaker, counts_none, puts_on, puts_same, stops_none, stops_on}

@@ -13,7 +13,6 @@ pub mod Recovery
 pub mod Several
 pub mod State
 pub mod Tasks
-pub use Rattle.file_journal.specs.Calls
 pub use Rattle.file_journal.specs.Journal
 pub use Rattle.file_journal.specs.Recovery as JournalRecovery
 pub use Rattle.file_journal.specs.declared.faults.StoreFault

@@ -1,8 +1,8 @@
 -- What a command of a call does to the disk of the notes, at every moment of it.
 use Rattle.std.specs.Prelude.{◌≡◌, ◌⊎◌, ◌↔◌, ℕ, ◌+◌, ◌≤◌, List, true, false, IfSome, IsTrue, Result, IsErr, IsErrOf}
 use Rattle.disk_model.specs.declared.disk.Disk.{Ghosts}
-use Rattle.file_journal.specs.Calls.{Leaves, Puts}
-pub use Rattle.file_journal.specs.Calls.{EachImage}
+use Rattle.disk_model.specs.Runs.{Leaves, Puts}
+pub use Rattle.disk_model.specs.Runs.{EachImage}
 use Rattle.file_journal.specs.Position.{IsSameJournal, MovesOn}
 use Rattle.file_journal.specs.declared.faults.JournalFault.{JournalFault}
 use Rattle.file_journal.specs.declared.faults.JournalFault.TheVariants as fault

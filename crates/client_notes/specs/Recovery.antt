@@ -2,7 +2,7 @@
 -- the form of the notes, whose disk is formatted with one block.
 use Rattle.std.specs.Prelude.{ℕ, List, IfSome, Result}
 use Rattle.disk_model.specs.declared.disk.Disk.{Ghosts}
-use Rattle.file_journal.specs.Calls.{Leaves, Runs}
+use Rattle.disk_model.specs.Runs.{Leaves, Runs}
 use Rattle.file_journal.specs.Recovery.{IsSyncedFirst}
 use Rattle.file_journal.specs.Restoring as kept
 use Rattle.file_journal.specs.declared.faults.StoreFault.{StoreFault}

@@ -7,3 +7,7 @@ mod Surfaces
 mod Walks
 pub mod Writes
 mod Names
+pub mod Offered
+mod Runs
+mod Told
+mod Torn

@@ -6,8 +6,9 @@ pub use Rattle.disk_model.specs.Disk.{Follows, HasContent, Only, Torn, Writes}
 pub use Rattle.disk_model.specs.Fuse.{FuseState, IsTornNext, arming_in, cut_of, fuse, images_since, starved_fuse}
 pub use Rattle.disk_model.specs.Memory.{state}
 pub use Rattle.disk_model.specs.MemoryLaws.{content_is_image}
-pub use Rattle.disk_model.specs.Moments.{Elapses, SameImages, SamePast}
+pub use Rattle.disk_model.specs.Moments.{Elapses, LeavesOnly, SameImages, SamePast, SinceNow, TimePasses}
 pub use Rattle.disk_model.specs.Open.{IsClosed, LeaveOpen, StandsSince, inside_of, standing}
+pub use Rattle.disk_model.specs.Runs.{ChangesReads, CountsFault, CountsSome, IsQuietNow, Makes, Puts, PutsAmongReads, Reads, Runs, StopsAtFault, TellsAlike, images_now, one_if}
 pub use Rattle.disk_model.specs.Surface.{AllLeaveOpen, Closes, ImagesSince, IsImage, IsInRange, IsOpen, Surface, left_by, moments_in, moments_of, overlay, quiet_surface, surface_after, surface_after_call, with_range, with_ranges, write_over}
 pub use Rattle.disk_model.specs.Told.{cut_by, told_of}
 pub use Rattle.disk_model.specs.Undone.{StandsOpen, Undoes, before_writes, call_of, calls_of, found_by, standing_open, synced_before, undone}
@@ -18,7 +19,7 @@ pub use Rattle.px_base.specs.Outside.{HasCause, Rose}
 pub use Rattle.std.proofs.Math.Nat.{le_refl}
 pub use Rattle.std.proofs.lemmas.Bool.{cases_Bool, cases_lt}
 pub use Rattle.std.proofs.lemmas.Grind.{common_steps}
-pub use Rattle.std.proofs.lemmas.List.{drop-drop, ext_get_or, get_or-drop, get_or-take, length-append, length-drop, length-take, length_push, map-append, places, reverse-append, same_lists, take-append-drop, take-append-le, take_all, take_more}
+pub use Rattle.std.proofs.lemmas.List.{drop-drop, drop-take, drop_all, ext_get_or, get_or-drop, get_or-take, length-append, length-drop, length-take, length_push, map-append, places, reverse-append, same_lists, take-append-drop, take-append-le, take_all, take_more, take_rest}
 pub use Rattle.std.proofs.lemmas.List.Elements.{All-append, All-drop, All-from_get_or, All-replicate, All-tail, All-take}
 pub use Rattle.std.proofs.lemmas.List.Sums.{fold-append, sum_by-append}
 pub use base.Logic.{SProp, ent}

@@ -12,6 +12,7 @@ pub mod MemoryLaws
 pub mod Moments
 pub mod Open
 pub mod Promised
+pub mod Runs
 pub mod Surface
 pub mod Told
 pub mod Undone

@@ -1,9 +1,8 @@
 -- What a record put behind the last gate makes of a store, and what a crash leaves of it.
 use Rattle.std.proofs.Common.{◌≡◌, ◌≢◌, inl, inr, ℕ, ◌+◌, ◌<◌, ◌≤◌, true, false, List, [], ◌∷◌, ◌++◌, length, take, drop, Some, IfSome, Result, OnOk, refl, sym, ◌∙◌, ap, subst, arith, append_assoc, append-nil, length-append, length-drop, take-append-drop, take-take}
-use Rattle.file_journal.proofs.Names.{common_steps, cases_eq, take-append-le, take_at, drop_at, length-take-le, All-drop, on_ok_weaker, AllByRecursion, IsOctets, HasContent, Only, Torn, LeavesSince, Ghosts, Appends, IsAppending, IsPutting, OpensGate, with_gate, Leaves, Makes, images_now, HasHeader, first_gate, half_end, half_gate, half_in, up_to, Half, Layout, Record, IsRecord, record_text, records_text, StartsClosed, Reading, whole, StandsFrom, with_records, reading_from, Standing, store, journal_of, store_of, with_last, IsBeforeOrAfter, HasRoom, Position, end_of, gate_of, left_to_read, store_in, IsAt, StandsOn, on_ok_both, weaker, at_told, content_now, if_told, told_weaker}
+use Rattle.file_journal.proofs.Names.{common_steps, cases_eq, take-append-le, take_at, drop_at, length-take-le, All-drop, on_ok_weaker, AllByRecursion, IsOctets, HasContent, Only, Torn, LeavesSince, Ghosts, Appends, IsAppending, IsPutting, OpensGate, with_gate, Leaves, Makes, images_now, HasHeader, first_gate, half_end, half_gate, half_in, up_to, Half, Layout, Record, IsRecord, record_text, records_text, StartsClosed, Reading, whole, StandsFrom, with_records, reading_from, Standing, store, journal_of, store_of, with_last, IsBeforeOrAfter, HasRoom, Position, end_of, gate_of, left_to_read, store_in, IsAt, StandsOn, on_ok_both, weaker, at_told, content_now, if_told, told_weaker, kept_back, torn_front, torn_wider}
 use Rattle.file_journal.proofs.JournalLemmas.{same_header, of_full, store_parts}
 use Rattle.file_journal.proofs.LayoutLemmas.{gate_behind, half_behind, same_half, up_to_front, up_to_octets, up_to_split, up_to_whole}
-use Rattle.file_journal.proofs.OctetLemmas.{kept_back, torn_front, torn_wider}
 use Rattle.file_journal.proofs.PositionLemmas.{among_records, records_text-append, length-records_text-push, records-push}
 use Rattle.file_journal.proofs.ReadingLemmas.{stands_from_read, reading_none, reading_records, reading_closed, all_whole}
 

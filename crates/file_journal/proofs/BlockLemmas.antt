@@ -1,11 +1,10 @@
 -- What a write of a block leaves of the records, and of what a crash leaves.
 use Rattle.std.proofs.Common.{◌≡◌, inl, inr, ℕ, ◌+◌, ◌-◌, ◌≤◌, true, false, Bool, List, ◌∷◌, ◌++◌, length, take, drop, Some, IfSome, Result, Ok, Err, OnOk, refl, sym, ◌∙◌, ap, subst, arith, append_assoc, take-append-drop, take-take, drop-drop, take_all}
 use Rattle.std.specs.Result.{is_err}
-use Rattle.file_journal.proofs.Names.{common_steps, drop_at, drop-take, length-take-le, take_at, on_ok_weaker, IsOctets, HasContent, Only, Torn, Writes, LeavesSince, Ghosts, IsTornFrom, HasBlock, IsWritingBlock, WritesBlock, Leaves, Makes, images_now, block_in, block_place, first_gate, half_gate, IsAt, Position, StandsOn, gate_of, left_to_read, store_in, Record, records_text, Half, Layout, on_ok_both, weaker, at_told, content_now, if_told, told_weaker}
+use Rattle.file_journal.proofs.Names.{common_steps, drop_at, drop-take, length-take-le, take_at, on_ok_weaker, IsOctets, HasContent, Only, Torn, Writes, LeavesSince, Ghosts, IsTornFrom, HasBlock, IsWritingBlock, WritesBlock, Leaves, Makes, images_now, block_in, block_place, first_gate, half_gate, IsAt, Position, StandsOn, gate_of, left_to_read, store_in, Record, records_text, Half, Layout, on_ok_both, weaker, at_told, content_now, if_told, told_weaker, kept_back, torn_front, torn_length}
 use Rattle.file_journal.proofs.AppendLemmas.{AllEnd, Ends, all_end, ends_at, ends_closed, ends_store, ends_there}
 use Rattle.file_journal.proofs.JournalLemmas.{same_header}
 use Rattle.file_journal.proofs.LayoutLemmas.{gate_of_blocks, half_behind, same_half}
-use Rattle.file_journal.proofs.OctetLemmas.{kept_back, torn_front, torn_length}
 use Rattle.file_journal.proofs.PositionLemmas.{among_records}
 
 -- a write inside leaves what a torn one may leave

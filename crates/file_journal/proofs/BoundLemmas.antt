@@ -1,7 +1,6 @@
 -- How long a disk gets, and what stands behind its store.
 use Rattle.std.proofs.Common.{◌≡◌, inl, inr, ⊎_elim, ℕ, ◌+◌, ◌<◌, ◌≤◌, true≢false, List, length, drop, is_some, Option, None, Some, IfSome, refl, sym, ◌∙◌, ap, subst, arith, ◌*◌, ◌⊎◌, false, [], ◌∷◌, length-append, Result}
-use Rattle.file_journal.proofs.Names.{common_steps, cases_lt, drop_all, AreAmong, IsTold, TimePasses, Ghosts, IsTornFrom, LeavesAppending, HasBlock, LeavesWritingBlock, EndsIn, HasBehind, RecoversInHalves, StaysInHalves, StaysWithin, longest, ChangesReads, Leaves, TellsAlike, images_now, block_place, first_gate, half_end, half_gate, half_size, HasRoom, Position, Record, IsRecovering, gate_in, number_in, IsChoosing, Half, Layout, reads_now, joined, reads, weaker, alike_same, at_told, if_told, told_before, told_weaker, Halves, Form, StandsAt, Blocks, HasBlocks, rewriting_calls, MovesOn, end_of, room_in, record_text, records_text, MayRewrite, WritesAnew, IsSeenBy, Steps, Growing, InBlocks}
-use Rattle.file_journal.proofs.OctetLemmas.{kept_behind}
+use Rattle.file_journal.proofs.Names.{common_steps, cases_lt, drop_all, AreAmong, IsTold, TimePasses, Ghosts, IsTornFrom, LeavesAppending, HasBlock, LeavesWritingBlock, EndsIn, HasBehind, RecoversInHalves, StaysInHalves, StaysWithin, longest, ChangesReads, Leaves, TellsAlike, images_now, block_place, first_gate, half_end, half_gate, half_size, HasRoom, Position, Record, IsRecovering, gate_in, number_in, IsChoosing, Half, Layout, reads_now, joined, reads, weaker, alike_same, at_told, if_told, told_before, told_weaker, Halves, Form, StandsAt, Blocks, HasBlocks, rewriting_calls, MovesOn, end_of, room_in, record_text, records_text, MayRewrite, WritesAnew, IsSeenBy, Steps, Growing, InBlocks, kept_behind}
 
 -- what is told is something
 some_of : (o : Option (List ℕ)) → IsTold o → (x : List ℕ) × (o ≡ Some x)

@@ -1,8 +1,8 @@
 -- How a run of writes that aren't synced goes on, and is synced.
 use Rattle.std.proofs.Common.{◌≡◌, inl, inr, ℕ, ◌+◌, ◌≤◌, true≢false, List, [], ◌∷◌, ◌++◌, length, Some, IfSome, Result, Ok, Err, IsErr, OnOk, sym, ◌∙◌, subst, arith, length-append}
-use Rattle.file_journal.proofs.Names.{AreAmong, Follows, HasContent, Only, Torn, Writes, SinceNow, TakesOneMoment, TimePasses, Ghosts, IsTornFrom, TakesCalls, IsQuietNow, Makes, Puts, Chooses, Covers, IsChoosing, Lays, makes_failed, makes_on, on_ok_both, puts_none, puts_on, puts_same, quiet_by_sync, goes_on, started, weaker, at_told, if_told, told_weaker}
+use Rattle.file_journal.proofs.Names.{AreAmong, Follows, HasContent, Only, Torn, Writes, SinceNow, TakesOneMoment, TimePasses, Ghosts, IsTornFrom, TakesCalls, IsQuietNow, Makes, Puts, Chooses, Covers, IsChoosing, Lays, makes_failed, makes_on, on_ok_both, puts_none, puts_on, puts_same, quiet_by_sync, goes_on, started, weaker, at_told, if_told, told_weaker, torn_on, torn_within}
 use Rattle.file_journal.proofs.FormatLemmas.{torn_quiet}
-use Rattle.file_journal.proofs.OctetLemmas.{lays_more, lays_none, torn_on, torn_within}
+use Rattle.file_journal.proofs.OctetLemmas.{lays_more, lays_none}
 
 -- a fact of what was answered
 pub with_ok : {T E P Q : Type 0} (result : Result T E) → (P → Q) → OnOk result P → OnOk result Q

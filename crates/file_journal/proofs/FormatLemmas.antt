@@ -1,7 +1,6 @@
 -- What formatting makes of octets, and what a crash in it leaves.
 use Rattle.std.proofs.Common.{◌≡◌, ℕ, ◌+◌, ◌-◌, ◌%◌, ◌==◌, ◌<◌, ◌≤◌, List, [], ◌∷◌, ◌++◌, length, get_or, take, drop, Some, sym, ◌∙◌, ap, subst, arith, append_assoc, length-append, length-drop, take-take, get_or-drop, get_or-take, eq-eqb}
-use Rattle.file_journal.proofs.Names.{common_steps, drop_all, drop_more, take_at, length-take-le, get_or_at, nat_tests, cond-true, HasGates, IsAfterFinishing, even_header, even_selector, Torn, Writes, IsTornFrom, IsFinishing, IsMakingEven, IsMakingGates, MakesEven, MakesGates, Ghosts, IsQuietNow, quiet_images}
-use Rattle.file_journal.proofs.OctetLemmas.{written, three_parts, torn_front, torn_length}
+use Rattle.file_journal.proofs.Names.{common_steps, drop_all, drop_more, take_at, length-take-le, get_or_at, nat_tests, cond-true, HasGates, IsAfterFinishing, even_header, even_selector, Torn, Writes, IsTornFrom, IsFinishing, IsMakingEven, IsMakingGates, MakesEven, MakesGates, Ghosts, IsQuietNow, quiet_images, written, three_parts, torn_front, torn_length}
 
 -- the same of a quiet disk
 pub torn_quiet : {D : Type 0} (g : Ghosts D) (disk : D) → ((t : ℕ) (image : List ℕ) → t ≤ g.moment disk → g.images disk image → g.images_since disk t image) → IsQuietNow g disk

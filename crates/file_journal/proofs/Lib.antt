@@ -1,7 +1,6 @@
 mod AppendLemmas
 mod BlockLemmas
 mod BoundLemmas
-mod CallLemmas
 mod CommandLemmas
 mod ContentLemmas
 mod CoverLemmas

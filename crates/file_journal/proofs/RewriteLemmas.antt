@@ -1,12 +1,12 @@
 -- What a rewriting makes of a journal's store, and what a crash leaves of it.
 use Rattle.std.proofs.Common.{◌≡◌, ◌⊎◌, inl, inr, ℕ, ◌+◌, ◌≤◌, Bool, true, false, true≢false, List, [], ◌∷◌, length, length-append, Some, IfSome, Result, Ok, Err, IsErr, OnErr, OnOk, refl, sym, ◌∙◌, ap, subst, arith, ◌≢◌, ◌<◌, ◌++◌, take, drop, append_assoc, length-drop, take-append-drop, take-take}
-use Rattle.file_journal.proofs.Names.{common_steps, IsOctets, Only, Ghosts, TakesCalls, Makes, images_now, journal_of, store_of, half_gate, other_half, selector_of, IsAt, Position, StandsOn, left_to_read, Record, records_text, whole, Chooses, IsChoosing, IsRewriting, KeepsBlocks, MayRewrite, Rewrites, WritesAnew, anew_text, other_gate, rewritten, Half, Layout, either_way, makes_weaker, on_err, on_ok_both, at_told, content_now, if_told, Halves, drop_at, length-take-le, take_all, take_at, AllByRecursion, Torn, HasHeader, HoldSame, block_in, first_gate, half_by, half_end, half_in, half_size, IsRecord, Lays, First, Second}
+use Rattle.file_journal.proofs.Names.{common_steps, IsOctets, Only, Ghosts, TakesCalls, Makes, images_now, journal_of, store_of, half_gate, other_half, selector_of, IsAt, Position, StandsOn, left_to_read, Record, records_text, whole, Chooses, IsChoosing, IsRewriting, KeepsBlocks, MayRewrite, Rewrites, WritesAnew, anew_text, other_gate, rewritten, Half, Layout, either_way, makes_weaker, on_err, on_ok_both, at_told, content_now, if_told, Halves, drop_at, length-take-le, take_all, take_at, AllByRecursion, Torn, HasHeader, HoldSame, block_in, first_gate, half_by, half_end, half_in, half_size, IsRecord, Lays, First, Second, kept_behind, torn_by}
 use Rattle.file_journal.proofs.AppendLemmas.{Ends, all_end, ends_at, ends_store, ends_half, ends_kept, ends_there}
 use Rattle.file_journal.proofs.BoundLemmas.{rewrite_stays, stays_same}
 use Rattle.file_journal.proofs.FormatLemmas.{octet_there}
 use Rattle.file_journal.proofs.JournalLemmas.{same_header}
 use Rattle.file_journal.proofs.LayoutLemmas.{gate_behind, half_behind, same_half}
-use Rattle.file_journal.proofs.OctetLemmas.{same_back, same_front, kept_behind, torn_by}
+use Rattle.file_journal.proofs.OctetLemmas.{same_back, same_front}
 
 -- ---- what a store stands for while the records in its other half are written anew, and once that half is chosen
 

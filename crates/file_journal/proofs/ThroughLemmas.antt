@@ -9,73 +9,7 @@ use Rattle.file_journal.proofs.KeptLemmas.{images_here}
 
 -- ---- what commands do to a state that is kept where reads come among them
 
--- ---- a count of failed reads
-
--- none failed
-pub some_still : (before now : ℕ) → now ≡ before → CountsSome before now 0
-some_still before now same = record { no_less = omega (arith, same); rose = inl (omega (arith, same)); same = λ none. same }
-
--- one run, of which a call failed or none did
-pub some_one : (before now : ℕ) (failed : Bool) → CountsFault before now (failed ≡ true) → CountsSome before now (one_if failed)
-some_one before now true counts =
-    let rose : before < 18446744073709551615 → before < now = counts.rose refl in
-    record { no_less = counts.no_less; rose = rises before now counts.no_less rose; same = λ none. absurd (cc none) }
-  where
-    rises : (before now : ℕ) → before ≤ now → (before < 18446744073709551615 → before < now) → (before + 1 ≤ now) ⊎ (18446744073709551615 ≤ now)
-    rises before now le rose = grind arith
-some_one before now false counts = some_still before now (counts.same (λ e. cc e))
-
 module _ {D : Type 0} (g : Ghosts D) where
-  -- ---- writes and syncs, with reads among them
-
-  -- reads alone, and no write that failed
-  pub puts_among_reads : (P Q : Type 0) (old new : D) → ¬ Q → Reads g P old new → PutsAmongReads g Q old new
-  puts_among_reads P Q old new fine run = record {
-    told = alike_same _ _ run.only.same_content;
-    reads = run.faults.no_less;
-    faults = record { no_less = omega (arith, run.only.same_write_faults); rose = λ failed. absurd (fine failed); same = λ still. run.only.same_write_faults };
-    stops = record { last = new; lasts = run.lasts; writes = run.only.same_write_faults; since = inr (changes_none g new) };
-    lasts = run.lasts;
-  }
-
-  pub puts_among : (P : Type 0) (old new : D) → Puts g P old new → PutsAmongReads g P old new
-  puts_among P old new puts = record {
-    told = puts.told;
-    reads = omega (arith, puts.reads);
-    faults = puts.faults;
-    stops = record {
-      last = puts.stops.last;
-      lasts = puts.stops.lasts;
-      writes = puts.stops.writes;
-      since = ⊎_elim (λ one. inl (one.1, one.2)) (λ only. inr only) puts.stops.since;
-    };
-    lasts = puts.lasts;
-  }
-
-  pub puts_among_same : (P Q : Type 0) (old new : D) → (P → Q) → (Q → P) → PutsAmongReads g P old new → PutsAmongReads g Q old new
-  puts_among_same P Q old new there back puts = record {
-    told = puts.told;
-    reads = puts.reads;
-    faults = counts_same _ _ P Q there back puts.faults;
-    stops = puts.stops;
-    lasts = puts.lasts;
-  }
-
-  -- behind calls of which no write and no sync failed
-  pub among_on : ((first second third : D) → g.lasts first second → g.lasts second third → g.lasts first third) → (Q : Type 0) (old mid new : D) → g.lasts old mid → TellsAlike (g.content old) (g.content mid)
-      → g.read_faults old ≤ g.read_faults mid → g.write_faults mid ≡ g.write_faults old → PutsAmongReads g Q mid new → PutsAmongReads g Q old new
-  among_on on Q old mid new lasts told reads writes second = record {
-    told = alike_on _ _ _ told second.told;
-    reads = omega (arith, reads, second.reads);
-    faults = counts_on _ _ _ Q writes second.faults;
-    stops = record { last = second.stops.last; lasts = on old mid second.stops.last lasts second.stops.lasts; writes = second.stops.writes ∙ writes; since = second.stops.since };
-    lasts = on old mid new lasts second.lasts;
-  }
-
-  pub puts_among_then : ((first second third : D) → g.lasts first second → g.lasts second third → g.lasts first third) → (P Q : Type 0) (old mid new : D) → ¬ P
-      → PutsAmongReads g P old mid → PutsAmongReads g Q mid new → PutsAmongReads g Q old new
-  puts_among_then on P Q old mid new fine first second = among_on on Q old mid new first.lasts first.told first.reads (first.faults.same fine) second
-
   module _ {S C : Type 0} (form : Form S C) where
     -- one run of reads, which failed or didn't
     pub reads_only : (failed : Bool) (now : S) (journal : Position) (old new : D) → Reads g (failed ≡ true) old new → journal.failed ≡ false → IsKept g form (kept_on now journal old)
@@ -216,15 +150,3 @@ module _ {D S C : Type 0} (g : Ghosts D) (form : Form S C) (failed : Type 0) (st
         omega (arith, moment (stands.time 0), rises_calls form (done ++ cut) stands.time stands.paces.rises (length before) within),
         λ room. let exact = stands.paces.exact (length before) within (room_some form stands.journal (done ++ cut) (length before) room) in omega (arith, exact, stands.paces.starts, moment stands.ready),
       )
-
--- ---- all calls of the disk of both
-
-module _ {D : Type 0} (g : Ghosts D) (on : (first second third : D) → g.lasts first second → g.lasts second third → g.lasts first third) (P failed : Type 0) (old mid new : D) (fine : ¬ P)
-    (first : Runs g P old mid) where
-  -- writes and syncs behind a recovery, with reads among them
-  pub runs_among : PutsAmongReads g failed mid new → PutsAmongReads g failed old new
-  runs_among second = let same = first.faults.same fine in among_on g on failed old mid new first.lasts first.told (omega (arith, same.0)) same.1 second
-
-  -- no more reads that failed are told of than were counted
-  pub runs_missed : (missed : ℕ) → CountsSome (g.read_faults mid) (g.read_faults new) missed → CountsSome (g.read_faults old) (g.read_faults new) missed
-  runs_missed missed second = subst (λ (n : ℕ). CountsSome n (g.read_faults new) missed) (first.faults.same fine).0 second

@@ -3,7 +3,7 @@ use Rattle.std.specs.Prelude.{◌≡◌, ◌⊎◌, ℕ, ◌+◌, ◌≤◌, Lis
 use Rattle.disk_model.specs.Disk.{Torn}
 use Rattle.disk_model.specs.Moments.{LeavesSince}
 use Rattle.disk_model.specs.declared.disk.Disk.{Ghosts}
-use Rattle.file_journal.specs.Calls.{Leaves}
+use Rattle.disk_model.specs.Runs.{Leaves}
 use Rattle.file_journal.specs.Journal.{IsBeforeOrAfter, with_last}
 use Rattle.file_journal.specs.Position.{Position, store_in}
 use Rattle.file_journal.specs.Records.{Record, record_text}

@@ -4,7 +4,7 @@ use Rattle.disk_model.specs.Disk.{Writes}
 use Rattle.disk_model.specs.Moments.{LeavesSince}
 use Rattle.disk_model.specs.declared.disk.Disk.{Ghosts}
 use Rattle.file_journal.specs.Appending.{IsTornFrom}
-use Rattle.file_journal.specs.Calls.{IsQuietNow, Leaves}
+use Rattle.disk_model.specs.Runs.{IsQuietNow, Leaves}
 use Rattle.file_journal.specs.Layout.{HasBlocks, block_in, block_place}
 use Rattle.file_journal.specs.Position.{Position, left_to_read, store_in}
 

@@ -2,7 +2,7 @@
 use Rattle.std.specs.Prelude.{◌≡◌, ℕ, ◌+◌, ◌*◌, ◌≤◌, List, drop, IfSome}
 use Rattle.disk_model.specs.Disk.{IsTold}
 use Rattle.disk_model.specs.declared.disk.Disk.{Ghosts}
-use Rattle.file_journal.specs.Calls.{Leaves, images_now}
+use Rattle.disk_model.specs.Runs.{Leaves, images_now}
 use Rattle.file_journal.specs.Layout.{first_gate, half_size}
 use Rattle.file_journal.specs.Recovery.{number_in}
 use Rattle.file_journal.specs.declared.layout.Layout.{Layout}

@@ -3,7 +3,7 @@ use Rattle.std.specs.Prelude.{◌≡◌, ℕ, ◌+◌, ◌<◌, ◌≤◌, List,
 use Rattle.std.specs.Prelude.{⊤}
 use Rattle.disk_model.specs.declared.disk.Disk.{Ghosts}
 use Rattle.file_journal.specs.Bounds.{StaysInHalves}
-use Rattle.file_journal.specs.Calls.{EachImage, Leaves, Puts}
+use Rattle.disk_model.specs.Runs.{EachImage, Leaves, Puts}
 use Rattle.file_journal.specs.Commands.{AreAllowed, MakesBetween, MakesFirst, StayDone, after_all, after_first}
 use Rattle.file_journal.specs.Commands.{done_at, octets_of}
 use Rattle.file_journal.specs.Form.{Form}

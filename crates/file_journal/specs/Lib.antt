@@ -2,7 +2,6 @@ pub mod AmongReads
 pub mod Appending
 pub mod Blocks
 pub mod Bounds
-pub mod Calls
 pub mod Commands
 pub mod Form
 pub mod Formatting

@@ -3,7 +3,7 @@ use Rattle.std.specs.Prelude.{◌≡◌, ◌≢◌, ◌⊎◌, ℕ, ◌+◌, ◌
 use Rattle.std.specs.Prelude.{if◌then◌else◌, Option, None, Some, IfSome}
 use Rattle.px_base.specs.Octets.{IsOctets}
 use Rattle.disk_model.specs.declared.disk.Disk.{Ghosts}
-use Rattle.file_journal.specs.Calls.{images_now}
+use Rattle.disk_model.specs.Runs.{images_now}
 use Rattle.file_journal.specs.Journal.{Standing, journal_of, store_of}
 use Rattle.file_journal.specs.Layout.{first_gate, half_end, half_gate, half_in, up_to}
 use Rattle.file_journal.specs.declared.layout.Half.{Half}

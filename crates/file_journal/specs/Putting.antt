@@ -2,7 +2,7 @@
 use Rattle.std.specs.Prelude.{◌≡◌, ◌⊎◌, ℕ, ◌+◌, ◌≤◌, List, [], ◌∷◌, length, false, true, IfSome}
 use Rattle.disk_model.specs.declared.disk.Disk.{Ghosts}
 use Rattle.file_journal.specs.Bounds.{StaysInHalves}
-use Rattle.file_journal.specs.Calls.{EachImage, Leaves, Puts, TakesStep}
+use Rattle.disk_model.specs.Runs.{EachImage, Leaves, Puts, TakesStep}
 use Rattle.file_journal.specs.Form.{Form, StandsFor}
 use Rattle.file_journal.specs.Kept.{Does, KeptOn, StandsAt, kept_on}
 use Rattle.file_journal.specs.Layout.{Blocks, HoldSame, block_in, blocks_on}

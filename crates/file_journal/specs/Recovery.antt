@@ -4,7 +4,7 @@ use Rattle.px_base.specs.Numbers.{le32}
 use Rattle.px_base.specs.Outside.{Rose}
 use Rattle.disk_model.specs.Moments.{LeavesSince}
 use Rattle.disk_model.specs.declared.disk.Disk.{Ghosts}
-use Rattle.file_journal.specs.Calls.{IsQuietNow, TakesStep}
+use Rattle.disk_model.specs.Runs.{IsQuietNow, TakesStep}
 use Rattle.file_journal.specs.Journal.{HasGoodHeader, IsAfterRecovery, IsSameStore, header_text}
 use Rattle.file_journal.specs.Journal.{bad_number, journal_of, no_store, store_of}
 use Rattle.file_journal.specs.Layout.{first_gate, half_in}

@@ -2,7 +2,7 @@
 use Rattle.std.specs.Prelude.{◌≡◌, ◌⊎◌, ◌↔◌, ℕ, List, false, true, Option, IfSome, Result, IsErrOf}
 use Rattle.disk_model.specs.declared.disk.Disk.{Ghosts}
 use Rattle.file_journal.specs.Bounds.{RecoversInHalves}
-use Rattle.file_journal.specs.Calls.{IsQuietNow, Leaves, Runs, TakesStep}
+use Rattle.disk_model.specs.Runs.{IsQuietNow, Leaves, Runs, TakesStep}
 use Rattle.file_journal.specs.Form.{Form, standing_of}
 use Rattle.file_journal.specs.Journal.{IsAfterRecovery}
 use Rattle.file_journal.specs.Kept.{IsKept, KeptOn}

@@ -7,7 +7,7 @@ use Rattle.disk_model.specs.Disk.{Follows, Torn, Writes}
 use Rattle.disk_model.specs.declared.disk.Disk.{Ghosts}
 use Rattle.file_journal.specs.Appending.{IsTornFrom, TakesCalls}
 use Rattle.file_journal.specs.Bounds.{StaysWithin, longest}
-use Rattle.file_journal.specs.Calls.{IsQuietNow, Leaves, Puts, TakesStep}
+use Rattle.disk_model.specs.Runs.{IsQuietNow, Leaves, Puts, TakesStep}
 use Rattle.file_journal.specs.Journal.{store_of}
 use Rattle.file_journal.specs.Layout.{HoldSame, block_in, half_gate, half_size, other_half, selector_of}
 use Rattle.file_journal.specs.Position.{Position, StandsOn, store_in}

@@ -5,7 +5,7 @@
 -- recovery.
 use Rattle.std.specs.Prelude.{◌≡◌, ℕ, ◌+◌, ◌<◌, ◌≤◌, List, ◌++◌, length, IfSome}
 use Rattle.disk_model.specs.declared.disk.Disk.{Ghosts}
-use Rattle.file_journal.specs.Calls.{CountsFault, EachImage, Leaves}
+use Rattle.disk_model.specs.Runs.{CountsFault, EachImage, Leaves}
 use Rattle.file_journal.specs.Commands.{AreAllowed, MakesBetween, MakesFirst, StayDone, after_all}
 use Rattle.file_journal.specs.Form.{Form, StandsFor}
 use Rattle.file_journal.specs.Kept.{HasRoomFor, Paces}

@@ -2,7 +2,7 @@
 -- record, where the state before it allows that record.
 use Rattle.std.specs.Prelude.{◌≡◌, ℕ, ◌+◌, List, [], ◌∷◌, length, true, false, Option, None, Some, IfSome}
 use Rattle.disk_model.specs.declared.disk.Disk.{Ghosts}
-use Rattle.file_journal.specs.Calls.{IsQuietNow}
+use Rattle.disk_model.specs.Runs.{IsQuietNow}
 use Rattle.file_journal.specs.Journal as journal
 use Rattle.file_journal.specs.Journal.{IsSameStore, Standing, journal_of, with_last}
 use Rattle.file_journal.specs.Layout.{half_gate, half_in}

@@ -1,7 +1,7 @@
 //! Formatting: the header, and the first two gates.
 
 ghost use Rattle.std.specs.Prelude.{◌≡◌, ◌+◌, ◌^◌, ◌<◌, ◌≤◌, length, IfSome};
-ghost use Rattle.file_journal.specs.Calls.{IsQuietNow, Makes};
+ghost use Rattle.disk_model.specs.Runs.{IsQuietNow, Makes};
 ghost use Rattle.file_journal.specs.Formatting.{IsFinishing, IsMakingEven, IsMakingGates, MakesEven, MakesGates};
 ghost use Rattle.file_journal.specs.Header.{AreBlocks, HasSelector};
 ghost use Rattle.file_journal.specs.Journal.{IsAfterFinishing, IsAfterRecovery, header_text};

@@ -1,7 +1,7 @@
 //! The header of a store.
 
 ghost use Rattle.std.specs.Prelude.{◌≡◌, ◌<◌, List, ℕ, length, slice_index, IfOk, IfSome, IsErrOf};
-ghost use Rattle.file_journal.specs.Calls.{Reads};
+ghost use Rattle.disk_model.specs.Runs.{Reads};
 ghost use Rattle.file_journal.specs.Header.{AreBlocks, HasBadNumber, HasHeader, HasSelector, IsForeignBy};
 ghost use Rattle.file_journal.specs.Recovery.{Refuses};
 ghost use Rattle.file_journal.specs.declared.layout.Layout.{Layout};

@@ -6,7 +6,7 @@ ghost use Rattle.file_journal.specs.Appending.{Appends, LeavesAppending, LeavesB
 ghost use Rattle.file_journal.specs.Blocks.{GoesOnOrFails, HasBlock, LeavesRecords, LeavesWritingBlock};
 ghost use Rattle.file_journal.specs.Blocks.{MayWriteBlock, WritesBlock};
 ghost use Rattle.file_journal.specs.Bounds.{RecoversInHalves, StaysInHalves};
-ghost use Rattle.file_journal.specs.Calls.{IsQuietNow, Leaves, Puts, Reads, Runs, TakesStep};
+ghost use Rattle.disk_model.specs.Runs.{IsQuietNow, Leaves, Puts, Reads, Runs, TakesStep};
 ghost use Rattle.file_journal.specs.Header.{AreBlocks};
 ghost use Rattle.file_journal.specs.Layout.{block_in, half_end, half_gate, half_size, other_half};
 ghost use Rattle.file_journal.specs.Next.{AnswersNext, IsReadable};

@@ -3,7 +3,7 @@
 ghost use Rattle.std.specs.Prelude.{◌≡◌, ◌+◌, ◌<◌, ◌≤◌, ◌∷◌, [], length, false, true, IfOk, IfSome, IsErr, OnErr, OnOk};
 ghost use Rattle.file_journal.specs.Appending.{TakesCalls};
 ghost use Rattle.disk_model.specs.Disk.{FillsRoom};
-ghost use Rattle.file_journal.specs.Calls.{Reads};
+ghost use Rattle.disk_model.specs.Runs.{Reads};
 ghost use Rattle.file_journal.specs.Form.{record_calls};
 ghost use Rattle.file_journal.specs.Header.{AreBlocks};
 ghost use Rattle.file_journal.specs.Kept.{Does, MayTurn, StandsAt, kept_at, kept_on};

@@ -2,7 +2,7 @@
 
 ghost use Rattle.std.specs.Prelude.{◌≡◌, ◌+◌, ◌^◌, ◌<◌, ◌≤◌, [], length, take, IfOk, IfSome, OnOk, IsErrOf, None};
 ghost use Rattle.file_journal.specs.Appending.{IsPutting, OpensGate};
-ghost use Rattle.file_journal.specs.Calls.{Makes, Reads};
+ghost use Rattle.disk_model.specs.Runs.{Makes, Reads};
 ghost use Rattle.file_journal.specs.Finding.{IsFound};
 ghost use Rattle.file_journal.specs.Next.{FindsRecord, HasOctets, RefusesAt};
 ghost use Rattle.file_journal.specs.Records.{reading_at, record_of, whole};

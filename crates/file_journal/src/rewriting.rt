@@ -3,7 +3,7 @@
 ghost use Rattle.std.specs.Prelude.{List, ◌≡◌, ◌↔◌, ◌+◌, ◌^◌, ◌≤◌, [], ◌∷◌, length, false, true, None, IfOk};
 ghost use Rattle.std.specs.Prelude.{IfSome, IsErr, IsErrOf};
 ghost use Rattle.file_journal.specs.Appending.{IsTornFrom, TakesCalls};
-ghost use Rattle.file_journal.specs.Calls.{IsQuietNow, Makes, Puts};
+ghost use Rattle.disk_model.specs.Runs.{IsQuietNow, Makes, Puts};
 ghost use Rattle.file_journal.specs.Layout.{selector_of};
 ghost use Rattle.file_journal.specs.Position.{StandsOn};
 ghost use Rattle.file_journal.specs.Records.{Record, record_of, records_text};

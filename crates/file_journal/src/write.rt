@@ -3,7 +3,7 @@
 ghost use Rattle.std.specs.Prelude.{◌≡◌, ◌+◌, ◌^◌, ◌≤◌, length, IfSome, OnOk};
 ghost use Rattle.disk_model.specs.Disk.{Writes};
 ghost use Rattle.file_journal.specs.Appending.{IsTornFrom};
-ghost use Rattle.file_journal.specs.Calls.{Makes};
+ghost use Rattle.disk_model.specs.Runs.{Makes};
 
 use disk_model::{Disk, DiskFault};
 

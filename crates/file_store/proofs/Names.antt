@@ -13,8 +13,10 @@ pub use Rattle.block_entries.specs.PlacedRecords.{IsWritable, placed_after, reco
 pub use Rattle.block_entries.specs.Sealed.{Sealed, octets_given}
 pub use Rattle.block_entries.specs.Seen.{entry_with, holding_with, octets_in, seen, seen_entry, stamp_at, whole_block}
 pub use Rattle.block_entries.specs.TestLaws.{Grows, Passes, TakesSeal, passes_found}
+pub use Rattle.disk_model.proofs.Offered.{puts_among, puts_among_then, puts_none, reads_same, told_weaker}
 pub use Rattle.disk_model.specs.AtDisk.{AtDisk, at}
 pub use Rattle.disk_model.specs.Disk.{FillsRoom, IsTold}
+pub use Rattle.disk_model.specs.Runs.{Leaves, Reads, TellsAlike, images_now, one_if}
 pub use Rattle.disk_model.specs.declared.disk.Disk.{Ghosts}
 pub use Rattle.disk_model.specs.declared.disk.DiskFault.{DiskFault}
 pub use Rattle.file_entries.proofs.Offered.{AreAllowed-append, Told, after-other, after_all-append, begin-KeepsComplete, both-true, find-append_found, find-map-changed, find-map-changed_other, find-push, find_past, found-fits, found-number, found-passes, good-partial, grow-allowed, grows-after, grows-allowed, has_number, last_grow-after, last_grow-allowed, never-both, partial-held, room-partial, told, told-held}
@@ -26,9 +28,8 @@ pub use Rattle.file_entries.specs.IsStore.{IsStore}
 pub use Rattle.file_entries.specs.Kept.{KeepsComplete}
 pub use Rattle.file_entries.specs.Limits.{last_next, longest_file, most_entries}
 pub use Rattle.file_entries.specs.Store.{Entry, Holding, Store, blocks_for, blocks_of, complete, entry_count, entry_of, free_blocks, holding_of, new_entry, octets_at, octets_of, partial, store_from}
-pub use Rattle.file_journal.proofs.Offered.{among_does, among_same, among_then, does_longer, does_none, does_same, does_then, first_all, first_then, held_kept, images_here, knew, knows_on, makes_first, makes_within, puts_among, puts_among_then, puts_none, reads_only, reads_same, same_on, stands_through, told_weaker}
-pub use Rattle.file_journal.specs.AmongReads.{among_reads, one_if}
-pub use Rattle.file_journal.specs.Calls.{Leaves, Reads, TellsAlike, images_now}
+pub use Rattle.file_journal.proofs.Offered.{among_does, among_same, among_then, does_longer, does_none, does_same, does_then, first_all, first_then, held_kept, images_here, knew, knows_on, makes_first, makes_within, reads_only, same_on, stands_through}
+pub use Rattle.file_journal.specs.AmongReads.{among_reads}
 pub use Rattle.file_journal.specs.Kept.{HasRoomFor, IsKept, KeptOn, StandsAt, kept_on}
 pub use Rattle.file_journal.specs.Layout.{Blocks, blocks_on}
 pub use Rattle.file_journal.specs.Records.{Record, record_of}

@@ -12,7 +12,7 @@ use Rattle.file_entries.specs.Store.{Entry, Store, entry_of}
 use Rattle.file_entries.specs.declared.begin_bar.BeginBar.TheVariants as bar
 use Rattle.file_entries.specs.Command.{Command, last_grow}
 use Rattle.block_entries.specs.PlacedFiles.{octets_or_none}
-use Rattle.file_journal.specs.AmongReads.{one_if}
+use Rattle.disk_model.specs.Runs.{one_if}
 use Rattle.file_store.specs.State.{HasFailed, IsKnown, StoreState, rest_in, store_in, store_on}
 use Rattle.file_store.specs.Upload.{Upload, came, held_whole, octets_come, sealing}
 use Rattle.file_store.specs.declared.refusals.BeginRefusal.{BeginRefusal}

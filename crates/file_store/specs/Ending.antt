@@ -10,8 +10,7 @@ use Rattle.file_entries.specs.Command.{Command, last_grow}
 use Rattle.file_entries.specs.Faults.{fault_code}
 use Rattle.file_entries.specs.Info.{IsCompleteIn}
 use Rattle.file_entries.specs.Store.{Entry, Store, complete, entry_of, partial}
-use Rattle.file_journal.specs.AmongReads.{one_if}
-use Rattle.file_journal.specs.Calls.{Reads}
+use Rattle.disk_model.specs.Runs.{one_if, Reads}
 use Rattle.file_store.specs.Kept.{OnlyChanges}
 use Rattle.file_store.specs.OnDisk.{Does}
 use Rattle.file_store.specs.State.{IsKnown, StandsOn, StoreState, rest_in, store_in, store_on}

@@ -3,7 +3,7 @@ use Rattle.std.specs.Prelude.{◌≡◌, ◌↔◌, ℕ, ◌≤◌, List, length
 use Rattle.px_base.specs.Octets.{IsOctets}
 use Rattle.disk_model.specs.Moments.{ChangesNothing}
 use Rattle.disk_model.specs.declared.disk.Disk.{Ghosts}
-use Rattle.file_journal.specs.Calls.{images_now}
+use Rattle.disk_model.specs.Runs.{images_now}
 use Rattle.file_journal.specs.Layout.{block_in}
 use Rattle.file_entries.specs.Command.{AreAllowed, Command}
 use Rattle.file_entries.specs.Info.{is_complete}

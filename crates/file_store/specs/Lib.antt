@@ -27,7 +27,6 @@ pub use Rattle.file_entries.specs.declared.begin_bar.BeginBar
 pub use Rattle.file_entries.specs.declared.info.Info as EntriesInfo
 pub use Rattle.file_entries.specs.Limits
 pub use Rattle.file_journal.specs.Bounds
-pub use Rattle.file_journal.specs.Calls
 pub use Rattle.file_journal.specs.Journal
 pub use Rattle.file_journal.specs.Position
 pub use Rattle.file_journal.specs.Records as JournalRecords

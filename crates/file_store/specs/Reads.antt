@@ -1,7 +1,7 @@
 -- What a call that only reads needs of the store, and what it leaves.
 use Rattle.std.specs.Prelude.{◌≡◌, ℕ}
 use Rattle.disk_model.specs.declared.disk.Disk.{Ghosts}
-use Rattle.file_journal.specs.Calls.{Reads}
+use Rattle.disk_model.specs.Runs.{Reads}
 use Rattle.file_entries.specs.Info.{IsCompleteIn}
 use Rattle.file_store.specs.State.{IsReady, StoreState, store_in}
 

@@ -2,7 +2,7 @@
 use Rattle.std.specs.Prelude.{◌≡◌, ℕ, List, Option, IfSome, Result}
 use Rattle.disk_model.specs.declared.disk.Disk.{Ghosts}
 use Rattle.block_entries.specs.PlacedFiles.{NothingOut}
-use Rattle.file_journal.specs.Calls.{IsQuietNow}
+use Rattle.disk_model.specs.Runs.{IsQuietNow}
 use Rattle.file_journal.specs.Recovery.{number_in}
 use Rattle.file_journal.specs.Restoring as restoring
 use Rattle.file_journal.specs.Walk.{state}

@@ -6,7 +6,7 @@ use Rattle.file_journal.specs.AmongReads as among
 use Rattle.file_entries.specs.Command.{Command}
 use Rattle.file_store.specs.OnDisk.{kept_at}
 use Rattle.file_store.specs.State.{StoreState, store_form}
-pub use Rattle.file_journal.specs.AmongReads.{CountsSome, PutsAmongReads, StopsAtFailedWrite, one_if}
+pub use Rattle.disk_model.specs.Runs.{CountsSome, PutsAmongReads, StopsAtFailedWrite, one_if}
 
 -- A store that hadn't failed did these commands, or the disk failed in one of them; and reads came before, between and
 -- behind them, of which so many failed at least, or none did. Each command took the calls of the disk that the form of

@@ -7,7 +7,7 @@ ghost use Rattle.std.specs.Io.BufRead.{Rests};
 ghost use Rattle.std.specs.Option.{option_map};
 ghost use Rattle.disk_model.specs.Disk.{FillsRoom};
 ghost use Rattle.file_journal.specs.Bounds.{RecoversInHalves};
-ghost use Rattle.file_journal.specs.Calls.{Leaves, Reads, Runs, TakesStep};
+ghost use Rattle.disk_model.specs.Runs.{Leaves, Reads, Runs, TakesStep};
 ghost use Rattle.file_journal.specs.Journal.{IsAfterRecovery};
 ghost use Rattle.file_entries.specs.Command.{after, after_all, begin, drop_entry, grow, last_grow, seal};
 ghost use Rattle.file_entries.specs.Command.{unfilled_block, whole_grows};

@@ -8,7 +8,7 @@ ghost use Rattle.block_entries.specs.PlacedFiles.{store_of};
 ghost use Rattle.disk_model.specs.Disk.{FillsRoom};
 ghost use Rattle.file_entries.specs.Headers.{IsHeaderOf, IsWholeHeader};
 ghost use Rattle.file_entries.specs.Store.{entry_of, octets_at};
-ghost use Rattle.file_journal.specs.Calls.{Reads};
+ghost use Rattle.disk_model.specs.Runs.{Reads};
 ghost use Rattle.file_store.specs.Reads.{MayRead};
 ghost use Rattle.file_store.specs.State.{IsKnown, IsReady, state_from, store_in, store_on};
 

@@ -3,7 +3,7 @@ use Rattle.std.specs.Prelude.{◌≡◌, ℕ, List, true, false, Bool, Option, N
 use Rattle.disk_model.specs.declared.disk.Disk.{Ghosts}
 use Rattle.ax25_frames.specs.FrameText.{FrameText, FrameValue, canonical}
 use Rattle.ax25_link.specs.Kept.{SameStations}
-use Rattle.client_notes.specs.Calls.{Leaves}
+use Rattle.disk_model.specs.Runs.{Leaves}
 use Rattle.client_notes.specs.Notes.{Lists}
 use Rattle.client_notes.specs.Several.{DoesSeveral, MakesFirst}
 use Rattle.disk_model.specs.declared.halt.Halt.{Halt}

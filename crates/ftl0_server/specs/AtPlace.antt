@@ -6,7 +6,7 @@ use Rattle.ax25_frames.specs.FrameText.{FrameValue}
 use Rattle.ax25_link.specs.Kept.{Fits, IsFromPeer, Kept, SameStations, is_pending}
 use Rattle.ax25_link.specs.Window.{Window}
 use Rattle.ax25_link.specs.declared.state.LinkState.TheVariants.{Up, Down}
-use Rattle.file_store.specs.Calls.{Leaves}
+use Rattle.disk_model.specs.Runs.{Leaves}
 use Rattle.file_store.specs.Command.{after_all}
 use Rattle.file_store.specs.EntriesKept.{KeepsComplete}
 use Rattle.file_store.specs.OnDisk.{MakesFirst}

@@ -7,7 +7,7 @@ use Rattle.disk_model.specs.AtDisk.{at}
 use Rattle.disk_model.specs.declared.disk.Disk.{Ghosts}
 use Rattle.ax25_frames.specs.FrameText.{FrameText, FrameValue, canonical}
 use Rattle.ax25_frames.specs.Kinds.{FitsControl}
-use Rattle.file_store.specs.Calls.{Leaves}
+use Rattle.disk_model.specs.Runs.{Leaves}
 use Rattle.file_store.specs.OnDisk.{MakesFirst}
 use Rattle.file_store.specs.State.{IsKnown, IsReady, store_on}
 use Rattle.file_store.specs.Store.{Store}

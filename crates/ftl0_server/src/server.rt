@@ -6,7 +6,7 @@ ghost use Rattle.ax25_frames.specs.Values.{value_of};
 ghost use Rattle.ax25_link.specs.Window.{IsGoodK, window_of};
 ghost use Rattle.file_store.specs.IsStore.{IsStore};
 ghost use Rattle.file_store.specs.Bounds.{RecoversInHalves};
-ghost use Rattle.file_store.specs.Calls.{Leaves, Runs, TakesStep};
+ghost use Rattle.disk_model.specs.Runs.{Leaves, Runs, TakesStep};
 ghost use Rattle.file_store.specs.Journal.{IsAfterRecovery};
 ghost use Rattle.file_store.specs.Recovery.{IsRecovered, LeavesAlikeSinceSync, RefusesRecovery, StandsAlike};
 ghost use Rattle.file_store.specs.State.{IsRead, IsReady, store_in, store_layout, store_magic, store_on};

@@ -1,12 +1,12 @@
 -- The names of specs, and of the crates below, that proofs use, in one place.
 pub use Rattle.disk_model.specs.AtDisk.{AtDisk, at}
+pub use Rattle.disk_model.specs.Runs.{ChangesReads, Reads, TellsAlike}
 pub use Rattle.disk_model.specs.declared.disk.Disk.{Ghosts}
 pub use Rattle.disk_model.specs.declared.disk.DiskFault.{DiskFault}
 pub use Rattle.file_store.proofs.Offered.{AreAllowed-split, Does-moved, Does-none, Does-same, after_all-append, after_first-then, among-at, among-parked, among-same, at_told, does-among, find-map-changed, find-push, find_past, found-fits, found-number, grows-after, has_number, in_parked, known_on, last_grow-after, like_bars, like_can_begin, like_complete, like_entry, like_is_complete, like_next, like_none, like_octets_length, like_partial, like_same, like_whole, on_like, on_rules, on_same, puts-among, puts-among-same, reads-only, reads_none, reads_on, reads_same, stands_parked, stays, told_weaker}
 pub use Rattle.file_store.specs.Answers.{IsShort, IsTooMuch, RefusesBegin, begin_reaches}
 pub use Rattle.file_store.specs.Bars.{Bars}
 pub use Rattle.file_store.specs.BeginBar.{BeginBar}
-pub use Rattle.file_store.specs.Calls.{ChangesReads, Reads, TellsAlike}
 pub use Rattle.file_store.specs.Command.{AreAllowed, Command, DoesAll, MayBegin, after, after_all, begin, can_begin, grown, has_room, last_grow, passes, seal, sealed, stamp_of, unfilled_block, whole_grows}
 pub use Rattle.file_store.specs.EntriesKept.{KeepsComplete}
 pub use Rattle.file_store.specs.Files.{ChangesRest, KeepsRests}

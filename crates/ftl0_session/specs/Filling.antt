@@ -4,7 +4,7 @@ use Rattle.disk_model.specs.declared.disk.Disk.{Ghosts}
 use Rattle.ftl0_packets.specs.ErrorCodes.{octet_of}
 use Rattle.ftl0_packets.specs.declared.error_code.ErrorCode.TheVariants as error
 use Rattle.ftl0_packets.specs.Layout.{dl_error_resp, packet_text}
-use Rattle.file_store.specs.Calls.{Reads}
+use Rattle.disk_model.specs.Runs.{Reads}
 use Rattle.file_store.specs.State.{IsKnown}
 use Rattle.file_store.specs.Store.{Store}
 use Rattle.ftl0_session.specs.Downloads.Filling.{Filled}

@@ -8,7 +8,7 @@ use Rattle.ftl0_session.specs.Lists.Lists.{CallerList}
 use Rattle.file_store.specs.Command.{DoesAll, after_all}
 use Rattle.file_store.specs.OnDisk.{outlined_all}
 use Rattle.file_store.specs.EntriesKept.{KeepsComplete}
-use Rattle.file_store.specs.Calls.{ChangesReads}
+use Rattle.disk_model.specs.Runs.{ChangesReads}
 use Rattle.file_store.specs.State.{IsKnown, StandsOn, StoreState, store_in, store_on}
 use Rattle.file_store.specs.Store.{Store}
 use Rattle.file_store.specs.Working.{CountsSome, DoesAmongReads, PutsAmongReads, one_if}

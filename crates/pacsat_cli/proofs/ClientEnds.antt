@@ -3,7 +3,7 @@ use Rattle.std.proofs.Common.{◌≡◌, ℕ, List, arith, refl, ap, sym, subst,
 use Rattle.std.specs.Prelude.{◌⊎◌}
 use Rattle.px_base.specs.declared.out.Out.{Ghosts as OutGhosts}
 use Rattle.px_base.specs.declared.shelf.Shelf.{Ghosts as ShelfGhosts}
-use Rattle.file_store.specs.Calls.{Runs}
+use Rattle.disk_model.specs.Runs.{Runs}
 use Rattle.uploader.specs.State.{standing_of as notes_standing}
 use Rattle.uploader.specs.Begun.TheVariants as begun
 use Rattle.uploader.specs.declared.stop.SendStop.TheVariants as stop

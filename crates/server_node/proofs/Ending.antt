@@ -1,14 +1,15 @@
 -- A session or a server from the recovery of its store, which is refused or gives one, to its end by the turns of its
 -- node; what it does to its disk, and what stands there.
 use Rattle.std.proofs.Common.{◌≡◌, inl, inr, ℕ, List, ◌++◌, refl, ◌∙◌, ap, subst, arith, [], ◌∷◌, false, sym, ◌≢◌, Result, Ok, Err, IsErrAnd, IsErrOf, Option}
-use Rattle.server_node.proofs.Names.{AnswersRecovery, AtDisk, Command, Course, CutsOffAmongReads, DoesAmongReads, Driven, Ends, EndsOver, Finished, Ghosts, HasAirCause, IsBeforeTurns, IsButLast, IsKnown, IsRead, IsReadOn, IsRecovered, Lent, Made, MomentsOf, NodeHasCause, NodeStop, NodeTurnsBy, PutsAmongReads, RanBy, RefusesSession, Run, Seen, Served, Steps, StoppedInLast, StopsBehind, Store, StoreState, TakesAll, TookAll, TookTurns, Turn, TurnTerms, TurnsBy, at_told, common_steps, cuts-among-all, if_told, known_on, lent, made, party_at, served_by, stands-through, store_form, store_layout, store_magic, store_on, told_weaker}
 use Rattle.disk_model.specs.AtDisk.{AtDisk, at}
 use Rattle.file_journal.specs.Bounds.{RecoversInHalves}
 use Rattle.file_journal.specs.Position.{Position}
 use Rattle.file_journal.specs.Through.{StandsThrough}
-use Rattle.file_store.specs.Calls.{Runs, TakesStep}
+use Rattle.disk_model.specs.Runs.{Runs, TakesStep}
 use Rattle.server_node.specs.OnDisk.{NodeRuns}
-use Rattle.file_journal.proofs.Offered.{known_told, recovers_on, runs_among, runs_missed, runs_same}
+use Rattle.file_journal.proofs.Offered.{known_told, recovers_on, runs_same}
+use Rattle.disk_model.proofs.Offered.{runs_among, runs_missed}
+use Rattle.server_node.proofs.Names.{AnswersRecovery, AtDisk, Command, Course, CutsOffAmongReads, DoesAmongReads, Driven, Ends, EndsOver, Finished, Ghosts, HasAirCause, IsBeforeTurns, IsButLast, IsKnown, IsRead, IsReadOn, IsRecovered, Lent, Made, MomentsOf, NodeHasCause, NodeStop, NodeTurnsBy, PutsAmongReads, RanBy, RefusesSession, Run, Seen, Served, Steps, StoppedInLast, StopsBehind, Store, StoreState, TakesAll, TookAll, TookTurns, Turn, TurnTerms, TurnsBy, at_told, common_steps, cuts-among-all, if_told, known_on, lent, made, party_at, served_by, stands-through, store_form, store_layout, store_magic, store_on, told_weaker}
 use Rattle.server_node.proofs.StepsLemmas.{DidOnDisk}
 use Rattle.node.specs.Stops.{stop_of_fault}
 use Rattle.std.proofs.lemmas.Result.{err_from_is_err_and}

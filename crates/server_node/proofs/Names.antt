@@ -1,4 +1,4 @@
--- The names that proofs use of specs and of the crates below, in one place.
+-- The names of specs, and of the crates below, that proofs use, in one place.
 pub use Rattle.disk_model.specs.declared.disk.Disk.{Ghosts}
 pub use Rattle.disk_model.specs.declared.disk.DiskFault.{DiskFault}
 pub use Rattle.disk_model.specs.declared.halt.Halt.{Halt}
@@ -13,9 +13,9 @@ pub use Rattle.ftl0_packets.proofs.OctetLemmas.{IsOctets-append, IsOctets-nil, I
 pub use Rattle.ftl0_packets.proofs.SplitLemmas.{left-octets, left-waits, nothing_partial, octets_back, octets_front, octets_under_way, read-append, read-stream, stream_of, texts-append, under-way-less, under-way-whole}
 pub use Rattle.ftl0_packets.specs.Layout.{Item, PacketText, PacketValue}
 pub use Rattle.ftl0_packets.specs.Reading.{is_whole, packets_of, under_way}
-unfoldable pub use Rattle.ftl0_packets.specs.Reading.{rest_of}
 pub use Rattle.ftl0_packets.specs.Stream.{IsPartial, Stream}
 pub use Rattle.ftl0_server.proofs.Offered.{empties-silent, known-or-not, serves, serves-append, serves-one, silent-settled, uncut}
+pub use Rattle.ftl0_server.specs.ServerState.{SendsFor, server_pending}
 pub use Rattle.ftl0_session.proofs.Offered.{answer-all, answer-first, answer-more, answer-some, brings-init, brings-more, brings-stream, row-first, runs, runs-trans, with_part}
 pub use Rattle.ftl0_session.specs.Run.{Event as MetEvent, RunsOver, Session, heard_of}
 pub use Rattle.ftl0_session.specs.SessionState.{SessionState, caller_of, state_in}

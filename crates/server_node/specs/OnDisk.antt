@@ -2,7 +2,7 @@
 use Rattle.std.specs.Prelude.{◌≡◌, ◌⊎◌, ℕ, ◌≤◌, List, IfSome}
 use Rattle.px_base.specs.Outside.{Rose}
 use Rattle.disk_model.specs.declared.disk.Disk.{Ghosts}
-use Rattle.file_store.specs.Calls.{Leaves, TellsAlike}
+use Rattle.disk_model.specs.Runs.{Leaves, TellsAlike}
 use Rattle.file_store.specs.JournalRecovery.{IsFailedSync, IsSyncedFirst}
 use Rattle.file_store.specs.Recovery.{StandsAlike}
 use Rattle.file_store.specs.Working.{StopsAtFailedWrite}

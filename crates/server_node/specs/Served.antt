@@ -9,7 +9,7 @@ use Rattle.px_base.specs.declared.air.Turn.{Turn}
 use Rattle.px_base.specs.declared.air.Turn.TheVariants as turn
 use Rattle.file_journal.specs.Bounds.{RecoversInHalves}
 use Rattle.file_journal.specs.Through.{StandsThrough}
-use Rattle.file_store.specs.Calls.{ChangesReads, Runs, TakesStep}
+use Rattle.disk_model.specs.Runs.{ChangesReads, Runs, TakesStep}
 use Rattle.file_store.specs.Command.{Command}
 use Rattle.file_store.specs.IsStore.{IsStore}
 use Rattle.file_store.specs.Journal.{IsAfterRecovery}

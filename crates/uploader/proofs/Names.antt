@@ -2,7 +2,6 @@
 pub use Rattle.ax25_frames.specs.FrameText.{FrameValue, canonical}
 pub use Rattle.client_notes.proofs.Offered.{GoesThrough, Several-none, Several-one, Several-same, Several-then, acked-last, alike_same, answers-err, at_told, begun-fresh, begun-kept, counts_none, cuts-none, cuts-then, does-nothing, goes_through, if_told, images-here, not-failed, of_task, recovered-ready, recovers-as, runs_same, stops_none, told_weaker}
 pub use Rattle.client_notes.specs.Answers.{StartsBy, fresh_task, noted_at, start_reaches}
-pub use Rattle.client_notes.specs.Calls.{Runs}
 pub use Rattle.client_notes.specs.Command.{NotesCommand}
 pub use Rattle.client_notes.specs.Notes.{Lists, got_of, is_same_call, last_task}
 pub use Rattle.client_notes.specs.OnDisk.{Does, EachImage, Untouched}
@@ -11,6 +10,7 @@ pub use Rattle.client_notes.specs.State.{IsReady, NotesState, StandsFor, standin
 pub use Rattle.client_notes.specs.Walk.{state}
 pub use Rattle.client_notes.specs.declared.answers.Begun.{Begun}
 pub use Rattle.client_notes.specs.declared.refusals.NotesRefusal.{NotesRefusal}
+pub use Rattle.disk_model.specs.Runs.{Runs}
 pub use Rattle.disk_model.specs.declared.disk.Disk.{Ghosts}
 pub use Rattle.ftl0_client.proofs.KeptLemmas.{may-kept}
 pub use Rattle.ftl0_client.specs.Calls.{HandsOut, HandsOutNext, HasAsked, SameAttempt, SameButFrames, StopsBy}

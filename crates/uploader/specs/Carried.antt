@@ -3,7 +3,7 @@ use Rattle.std.specs.Prelude.{◌≡◌, ℕ, List, [], ◌++◌, IfSome, Result
 use Rattle.disk_model.specs.declared.disk.Disk.{Ghosts}
 use Rattle.node.specs.Lent.{Lent, Seen}
 use Rattle.node.specs.declared.stop.NodeStop.TheVariants as node
-use Rattle.file_journal.specs.Calls.{TakesStep}
+use Rattle.disk_model.specs.Runs.{TakesStep}
 use Rattle.file_journal.specs.Journal.{IsAfterRecovery}
 use Rattle.file_journal.specs.declared.layout.Layout.TheVariants as layout
 use Rattle.file_journal.specs.Through.{CountsWrites, StandsThrough}

@@ -1,7 +1,7 @@
 -- What disk and air count by how a command ends.
 use Rattle.std.specs.Prelude.{◌≡◌, ℕ, Bool, true, false, IfErr, IsErrOf, Result}
 use Rattle.px_base.specs.Outside.{Rose}
-use Rattle.client_notes.specs.Calls.{Runs}
+use Rattle.disk_model.specs.Runs.{Runs}
 use Rattle.node.specs.Lent.{Lent, Seen}
 use Rattle.uploader.specs.declared.stop.SendStop.{SendStop}
 use Rattle.uploader.specs.declared.stop.SendStop.TheVariants as stop

@@ -3,7 +3,7 @@
 ghost use Rattle.std.specs.Prelude.{◌≡◌, ◌≤◌, length, IsErrOf, MatchResult, OnErr, OnOk};
 ghost use Rattle.px_base.specs.Outside.{Gains, GainsPrefix, HasCause};
 ghost use Rattle.ftl0_client.specs.Window.{IsGoodK};
-ghost use Rattle.client_notes.specs.Calls.{CountsFault};
+ghost use Rattle.disk_model.specs.Runs.{CountsFault};
 ghost use Rattle.node.specs.Lent.{lent, seen};
 ghost use Rattle.uploader.specs.Causes.{HasCauses};
 ghost use Rattle.uploader.specs.Lines.{listing_lines};

@@ -8,7 +8,7 @@ use Rattle.ax25_link.specs.Kept.{IsFromPeer, Kept, SameStations, StandsFor, is_p
 use Rattle.ax25_link.specs.Timer.{is_down}
 use Rattle.ax25_link.specs.Window.{Window, window_of}
 use Rattle.ftl0_packets.specs.Layout.{Item}
-use Rattle.client_notes.specs.Calls.{Leaves, Puts}
+use Rattle.disk_model.specs.Runs.{Leaves, Puts}
 use Rattle.client_notes.specs.Several.{DoesSeveral, MakesFirst}
 use Rattle.client_notes.specs.State.{NotesState, StandsOn}
 use Rattle.disk_model.specs.declared.halt.Halt.{Halt}

@@ -1,6 +1,6 @@
 -- How what packets make of a connection is put together.
 use Rattle.std.proofs.Common.{◌≡◌, inl, inr, ℕ, ◌+◌, ◌<◌, ◌≤◌, Bool, true, false, not, ◌&&◌, List, [], ◌++◌, length, refl, ap, sym, ◌∙◌, subst, arith, length-append}
-use Rattle.file_store.specs.Calls.{Leaves}
+use Rattle.disk_model.specs.Runs.{Leaves}
 use Rattle.file_store.specs.OnDisk.{MakesFirst}
 use Rattle.ftl0_server.proofs.Names.{common_steps, All, Result, Ok, Err, ⊤, All-append, All-weaker, CallSign, Ghosts, LinkEnd, StandsFor, Window, Item, Command, after_all, Store, StoreState, store_on, after_all-append, among-then, cuts-among-all, cuts-among-then, known_back, known_on, makes-first, makes-within, told_weaker, weaker, Failure, failed_reads, failed_write, write_fails, DiskFault, SessionState, WorkingOn, caller_of, State, AtDisk, at, Session, Fate, Ends, Stays, ConnectionState, HearsBy, StandsAfter, none_left, with_reads, HearsParts, IsAmong, IsGoing, IsSeen, TakesPackets, session_on, taking_some, Happened, progressed, Halt, LookAtNone, Progress, fails, goes_on, taking}
 use Rattle.ftl0_server.proofs.connection.FailureLemmas.{AreWrites, alike-first, alike-second, none-writes, one-writes, other-part, reads-among, same-part, writes-none}

@@ -6,7 +6,7 @@ use Rattle.ax25_link.specs.Kept.{HasStations, Kept, StandsFor}
 use Rattle.ax25_link.specs.Window.{Window, window_of}
 use Rattle.ax25_link.specs.declared.state.LinkState.TheVariants.{Up}
 use Rattle.ftl0_session.specs.Lists.Lists.{CallerList}
-use Rattle.file_store.specs.Calls.{Leaves}
+use Rattle.disk_model.specs.Runs.{Leaves}
 use Rattle.file_store.specs.Command.{after_all}
 use Rattle.file_store.specs.OnDisk.{MakesFirst}
 use Rattle.file_store.specs.State.{StoreState, store_on}

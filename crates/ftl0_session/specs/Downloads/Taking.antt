@@ -9,7 +9,7 @@ use Rattle.ftl0_packets.specs.declared.error_code.ErrorCode.TheVariants as error
 use Rattle.ftl0_packets.specs.Layout.{dl_error_resp, packet_text}
 use Rattle.ftl0_session.specs.Causes.{Says}
 use Rattle.ftl0_session.specs.Lists.Lists.{CallerList}
-use Rattle.file_store.specs.Calls.{Reads}
+use Rattle.disk_model.specs.Runs.{Reads}
 use Rattle.file_store.specs.State.{IsKnown, StoreState, store_in, store_on}
 use Rattle.file_store.specs.Store.{Store}
 use Rattle.selection.specs.Layout.{Tree}

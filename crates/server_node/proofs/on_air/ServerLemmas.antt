@@ -1,18 +1,18 @@
 -- The course of a server as a node drives it, and what the server did over the turns of its node.
 use Rattle.std.proofs.Common.{◌≡◌, ℕ, ◌+◌, Bool, true, false, List, [], ◌∷◌, ◌++◌, Option, None, Some, refl, ap, sym, subst, ◌∙◌, inl, inr, append_assoc, append-nil, length, take, drop, length-append, arith, ◌≢◌, Result, Ok, Err}
-use Rattle.server_node.proofs.Names.{AtDisk, Command, CutsOffAmongReads, DiskFault, Driven, EndsOver, FailsBy, Finished, GaveAll, Ghosts, GivesNext, Halt, HasAirCause, IsButLast, IsFront, IsKnown, IsLawful, IsReady, IsRecovered, IsSaid, IsUp, NodeEvent, NodeEvents, NodeStop, OwesRest, Run, RunsOn, RunsTo, Seen, Served, ServesAt, Service, StandsBy, StopsOn, StopsTo, Store, StoreState, TookTurns, Turn, TurnTerms, TurnsBy, WholeBy, at, common_steps, cuts-among-none, empties-silent, files_at, known_on, length-take-le, lent, made, party_at, served_by, server_course, server_service, serves-append, serves-one, silent-settled, stop_at_put, store_at, store_on, take-append-drop, uncut, with_server, ⊤}
 use Rattle.kiss.specs.KissText.{kiss_text}
 use Rattle.ax25_frames.specs.FrameText.{FrameValue, canonical}
 use Rattle.ftl0_server.specs.Failures.{failed_reads, failed_write}
 use Rattle.ftl0_server.specs.Connection.ConnectionState.{with_reads}
 use Rattle.ftl0_server.specs.Calls.{HandsOutNext, HearsBy, HearsEvent}
 use Rattle.ftl0_server.specs.Server.{IsSilent, Server, ServerHappened, ServerSends, server_next, settled}
-use Rattle.ftl0_server.specs.ServerState.{IsServer, SendsFor, ServerState, server_pending}
+use Rattle.ftl0_server.specs.ServerState.{IsServer, ServerState}
 use Rattle.ftl0_server.specs.ServerStep.{Empties, happening}
 use Rattle.ftl0_server.specs.Serving.{TakesEvent}
 use Rattle.server_node.specs.OnAir.Serving.{StopsAt, server_steps, text_of}
 use Rattle.server_node.specs.declared.on_air.station.ServerStation.{ServerStation}
 use Rattle.std.proofs.lemmas.List.Concat.{flat_map-append}
+use Rattle.server_node.proofs.Names.{AtDisk, Command, CutsOffAmongReads, DiskFault, Driven, EndsOver, FailsBy, Finished, GaveAll, Ghosts, GivesNext, Halt, HasAirCause, IsButLast, IsFront, IsKnown, IsLawful, IsReady, IsRecovered, IsSaid, IsUp, NodeEvent, NodeEvents, NodeStop, OwesRest, Run, RunsOn, RunsTo, Seen, Served, ServesAt, Service, StandsBy, StopsOn, StopsTo, Store, StoreState, TookTurns, Turn, TurnTerms, TurnsBy, WholeBy, at, common_steps, cuts-among-none, empties-silent, files_at, known_on, length-take-le, lent, made, party_at, served_by, server_course, server_service, serves-append, serves-one, silent-settled, stop_at_put, store_at, store_on, take-append-drop, uncut, with_server, ⊤, SendsFor, server_pending}
 use Rattle.server_node.proofs.StepsLemmas.{AreSteps, DidOnDisk, did-all, did-stop, halt_by, puts-answered, puts-still, runs-none, runs-then, stays, stop-one, stops-more, stops-then}
 use Rattle.server_node.specs.declared.terms.ServerTerms.{ServerTerms}
 use Rattle.server_node.specs.OnAir.Served.{ServerRan, server_from}

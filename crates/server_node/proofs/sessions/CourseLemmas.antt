@@ -1,9 +1,9 @@
 -- The course of a session's server: that it is lawful, what the server owes by what it hears, and what it gives.
 use Rattle.std.proofs.Common.{◌≡◌, inl, inr, ℕ, Bool, false, None, List, [], ◌++◌, refl, ap, sym, ◌∙◌, subst, append_assoc, append-nil, ◌⊎◌, ◌==◌, ◌<◌, ◌∷◌, length, true, true≢false, Option, Some, arith, take, map, Result, Ok, Err, IsTrue, if◌then◌else◌}
-use Rattle.server_node.proofs.Names.{Answers, AtDisk, AwaitsInput, CallSign, Command, CutsOffAmongReads, DiskFault, DoesAmongReads, Event, FailsBy, GaveAll, Ghosts, GivesNext, GoesOver, Halt, HaltsOver, Input, IsAnswered, IsFront, IsHalting, IsInput, IsKnown, IsLawful, IsOctets, IsOctets-nil, IsOctets-take, IsPartial, IsReady, IsRowOf, IsSaid, IsServer, IsStopped, IsUnderWay, IsUnsaidFirst, Item, MetEvent, NodeStop, NoneDue, Owes, OwesAll, PacketText, PacketValue, RunsOn, RunsOver, RunsTo, ServerState, Service, Session, StopsAt, StopsOn, StopsTo, Store, StoreState, Stream, TakesAtMostOne, TakesPacket, Working, add-zero, after_all, among-at, among-same, among-store, among-then, answer-all, answer-first, answer-more, answer-some, are-octets, at, at_moment, common_steps, cuts-among-none, events_behind, events_to, heard_of, is_whole, known_on, made, map-append, most_left, nil_from_length, nothing_partial, octets_at, octets_in, octets_in-at, one_if, packet_of, puts-among-reads, puts-among-then, row-first, row_over, runs-trans, server_state, session_course, session_in, session_service, session_steps, stop_at_put, stop_of, store_in, store_on, texts-append, tick, under-way-whole, under_way, waiting_behind, with_part, ⊤}
 use Rattle.ftl0_session.specs.Answering.{IsAnswering, met_with, octets_left}
 use Rattle.ftl0_session.specs.Downloads.Sending.{due_packet, is_due}
 use Rattle.ftl0_session.specs.Table.{fault_reply, next_due, Row, State, download_part, failed_reads_told, in_session, tells_failed_read}
+use Rattle.server_node.proofs.Names.{Answers, AtDisk, AwaitsInput, CallSign, Command, CutsOffAmongReads, DiskFault, DoesAmongReads, Event, FailsBy, GaveAll, Ghosts, GivesNext, GoesOver, Halt, HaltsOver, Input, IsAnswered, IsFront, IsHalting, IsInput, IsKnown, IsLawful, IsOctets, IsOctets-nil, IsOctets-take, IsPartial, IsReady, IsRowOf, IsSaid, IsServer, IsStopped, IsUnderWay, IsUnsaidFirst, Item, MetEvent, NodeStop, NoneDue, Owes, OwesAll, PacketText, PacketValue, RunsOn, RunsOver, RunsTo, ServerState, Service, Session, StopsAt, StopsOn, StopsTo, Store, StoreState, Stream, TakesAtMostOne, TakesPacket, Working, add-zero, after_all, among-at, among-same, among-store, among-then, answer-all, answer-first, answer-more, answer-some, are-octets, at, at_moment, common_steps, cuts-among-none, events_behind, events_to, heard_of, is_whole, known_on, made, map-append, most_left, nil_from_length, nothing_partial, octets_at, octets_in, octets_in-at, one_if, packet_of, puts-among-reads, puts-among-then, row-first, row_over, runs-trans, server_state, session_course, session_in, session_service, session_steps, stop_at_put, stop_of, store_in, store_on, texts-append, tick, under-way-whole, under_way, waiting_behind, with_part, ⊤}
 use Rattle.server_node.proofs.sessions.PacketLemmas.{both-octets, events-append, events-then, hears-none, hears-then, events-of}
 use Rattle.server_node.proofs.Ending.{append-none}
 use Rattle.server_node.proofs.StepsLemmas.{AreSteps, does-none, puts-answered, puts-still, runs-then, stays, stop-one, stops-more, stops-then}

@@ -1,7 +1,7 @@
 -- The packets that what is handed over brings to a session.
 use Rattle.std.proofs.Common.{List, ℕ, ◌++◌, [], length, subst, Bool, true, false, ◌≡◌, ◌∷◌, refl, ap, sym, ◌∙◌, append_assoc, append-nil, ap₂, arith, if◌then◌else◌, ◌==◌}
-use Rattle.server_node.proofs.Names.{Brings, Event, Hears, Input, IsOctets, IsOctets-append, IsOctets-nil, IsWaiting, Item, ServerState, Stream, Turn, at_moment, common_steps, events_behind, events_to, inputs_of, inputs_since, left-octets, left-waits, map-append, octet, octets_at, octets_back, octets_front, octets_in, octets_in-append, octets_in-at, octets_of_turn, packets_of, read-append, read-stream, rest_of, stream_of, tick, turn_inputs, turn_tick, waiting_behind}
 use Rattle.px_base.specs.declared.air.Turn.TheVariants as turn
+use Rattle.server_node.proofs.Names.{Brings, Event, Hears, Input, IsOctets, IsOctets-append, IsOctets-nil, IsWaiting, Item, ServerState, Stream, Turn, at_moment, common_steps, events_behind, events_to, inputs_of, inputs_since, left-octets, left-waits, map-append, octet, octets_at, octets_back, octets_front, octets_in, octets_in-append, octets_in-at, octets_of_turn, packets_of, read-append, read-stream, rest_of, stream_of, tick, turn_inputs, turn_tick, waiting_behind}
 
 -- ---- inputs, and others behind them
 

@@ -1,8 +1,8 @@
 -- The recovery is refused, or the server serves over what it gives.
 use Rattle.std.proofs.Common.{None, Ok, arith, refl}
-use Rattle.server_node.proofs.Names.{AnswersRecovery, IsKnown, NodeEvents, at, common_steps, lent as lent_so, seen, server_course, store_form}
 use Rattle.ftl0_server.specs.ServerState.{ServerState}
 use Rattle.node.specs.Turns.{lent}
+use Rattle.server_node.proofs.Names.{AnswersRecovery, IsKnown, NodeEvents, at, common_steps, lent as lent_so, seen, server_course, store_form}
 use Rattle.server_node.proofs.Ending.{Recovers, never-over, refused}
 use Rattle.server_node.proofs.on_air.ServerLemmas.{owes-none, Ran, server-serves, started}
 use Rattle.server_node.proofs.on_air.serving.serve.Goals as goal

@@ -1,7 +1,7 @@
 -- The recovery is refused, or the session is served over what it gives.
 use Rattle.std.proofs.Common.{refl, ◌∙◌, Ok}
-use Rattle.server_node.proofs.Names.{AnswersRecovery, AreHandedOver, IsKnown, StoreState, at, lent as lent_so, login_text, new_server, on_rules_always, seen, session_course, store_form}
 use Rattle.node.specs.Turns.{lent}
+use Rattle.server_node.proofs.Names.{AnswersRecovery, AreHandedOver, IsKnown, StoreState, at, lent as lent_so, login_text, new_server, on_rules_always, seen, session_course, store_form}
 use Rattle.server_node.proofs.Ending.{Recovers, never-over, refused, unlisted}
 use Rattle.server_node.proofs.sessions.CourseLemmas.{owes-first}
 use Rattle.server_node.proofs.sessions.Sessions.{Ran, session-serves}

@@ -1,7 +1,7 @@
 -- The frame came, and what it made of the server is to be said.
 use Rattle.std.proofs.Common.{Err, Ok}
-use Rattle.server_node.proofs.Names.{at, hears}
 use Rattle.ax25_frames.specs.Values.{value_of}
+use Rattle.server_node.proofs.Names.{at, hears}
 use Rattle.server_node.proofs.on_air.ServerLemmas.{owes-event}
 use Rattle.server_node.proofs.on_air.station.ServerStationStation.hear.Goals as goal
 

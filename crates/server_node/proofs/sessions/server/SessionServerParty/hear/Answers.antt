@@ -1,8 +1,8 @@
 -- A whole packet is taken, and less than one waits.
 use Rattle.std.proofs.Common.{ap, sym, ◌∙◌}
-use Rattle.server_node.proofs.Names.{IsOctets-append, IsOctets-take, ServerState, caller_of, octets_under_way, under-way-less, under_way, working}
 use Rattle.disk_model.proofs.Writes.{octets_from_fits}
 use Rattle.ftl0_packets.specs.Values.{item_of}
+use Rattle.server_node.proofs.Names.{IsOctets-append, IsOctets-take, ServerState, caller_of, octets_under_way, under-way-less, under_way, working}
 use Rattle.server_node.proofs.sessions.CourseLemmas.{owes-last, owes-more, owes-taken}
 use Rattle.server_node.proofs.sessions.server.SessionServerParty.hear.Goals as goal
 

@@ -1,5 +1,6 @@
 -- What a run of calls does to a disk.
-use Rattle.std.specs.Prelude.{◌≡◌, ◌⊎◌, ◌↔◌, ℕ, ◌+◌, ◌≤◌, List, Option, IfSome, Result, IsErr, OnOk}
+use Rattle.std.specs.Prelude.{◌≡◌, ◌⊎◌, ◌↔◌, ℕ, ◌+◌, ◌≤◌, List, Bool, if◌then◌else◌}
+use Rattle.std.specs.Prelude.{Option, IfSome, Result, IsErr, OnOk}
 use Rattle.px_base.specs.Outside.{Rose}
 use Rattle.disk_model.specs.Disk.{HasContent, IsQuiet, IsTold}
 use Rattle.disk_model.specs.Moments.{LeavesOnly, OnlyReads, TimePasses}
@@ -91,3 +92,32 @@ pub record Runs {D : Type 0} (g : Ghosts D) (failed : Type 0) (old new : D) : Ty
   pub faults : CountsFaults g failed old new
   pub stops : StopsAtFault g old new
   pub lasts : g.lasts old new
+
+-- No write and no sync comes after one that failed: up to some disk between the two none failed, and since that came
+-- one at most, or nothing but reads. A read that failed stops nothing.
+pub record StopsAtFailedWrite {D : Type 0} (g : Ghosts D) (old new : D) : Type 0 where
+  pub last : D
+  pub lasts : g.lasts old last
+  pub writes : g.write_faults last ≡ g.write_faults old
+  pub since :
+      ((g.moment new ≤ g.moment last + 1) × TimePasses g.moment g.images g.images_since last new)
+      ⊎ ChangesReads g last new
+
+-- A run of writes and syncs, which failed or didn't, with reads among them.
+pub record PutsAmongReads {D : Type 0} (g : Ghosts D) (failed : Type 0) (old new : D) : Type 0 where
+  pub told : TellsAlike (g.content old) (g.content new)
+  pub reads : g.read_faults old ≤ g.read_faults new
+  pub faults : CountsFault (g.write_faults old) (g.write_faults new) failed
+  pub stops : StopsAtFailedWrite g old new
+  pub lasts : g.lasts old new
+
+-- one call that failed, or none
+abbrev pub one_if : Bool → ℕ
+one_if failed = if failed then 1 else 0
+
+-- A count of faults never falls. It rose by so many at least, or stands at its last number, 2 ^ 64 - 1; where there was
+-- none it stands as it stood.
+pub record CountsSome (before now some : ℕ) : Type 0 where
+  pub no_less : before ≤ now
+  pub rose : (before + some ≤ now) ⊎ (18446744073709551615 ≤ now)
+  pub same : some ≡ 0 → now ≡ before
