@@ -47,7 +47,7 @@ pub use Rattle.ftl0_packets.proofs.OctetLemmas.{IsOctets-append, IsOctets-cons, 
 pub use Rattle.ftl0_packets.proofs.SplitLemmas.{octets_front, read-append, read_front, texts-append}
 pub use Rattle.ftl0_packets.specs.Items.{kind_of_item, texts}
 pub use Rattle.ftl0_packets.specs.Layout.{Fits, Item, PacketValue, data_end, data_part, dir_long_cmd, dir_short_cmd, dl_error_resp, download_cmd, information, kind_of, login_resp, packet_text, select_cmd, select_resp, ul_error_resp, ul_go_resp, ul_nak_resp, upload_cmd}
-pub use Rattle.ftl0_packets.specs.Reading.{packets_of, rest_of}
+unfoldable pub use Rattle.ftl0_packets.specs.Reading.{packets_of, rest_of}
 pub use Rattle.ftl0_server.specs.Connection.Connected.{Connected, answering, beginning, caller_of, greeted}
 pub use Rattle.ftl0_server.specs.Connection.Hearing.{Happened, hearing, parts_as, parts_of_frame, progressed, rest_as}
 pub use Rattle.ftl0_server.specs.Entries.{HeardBy, HearingLaw, IsNotLost, SessionEntry, after_row, session_after}

@@ -34,14 +34,18 @@ pub use Rattle.file_store.specs.Store.{Entry, Holding, Store, complete, empty_st
 pub use Rattle.ftl0_client.specs.Attempt.Attempted.{Attempted, outcome_by, outcome_of}
 pub use Rattle.ftl0_client.specs.Entries.{GoesBy, JobEntry, after_losing, lost, packets_said, passed, queued, said_in, took}
 pub use Rattle.ftl0_client.specs.declared.attempt.outcome.AttemptOutcome.TheVariants.{LinkDown, Reached}
-pub use Rattle.ftl0_job.specs.Directory.{Directory, directory_row, empty_row, is_empty_code, longest_listing, new_directory}
-pub use Rattle.ftl0_job.specs.Download.{Download, done_row, download_row, error_row, fetching_row, gots, last_got, login_row, new_download, unnoted, whole_gots, whole_row}
+pub use Rattle.ftl0_job.specs.Directory.{Directory, empty_row, is_empty_code, longest_listing, new_directory}
+unfoldable pub use Rattle.ftl0_job.specs.Directory.{directory_row}
+pub use Rattle.ftl0_job.specs.Download.{Download, done_row, error_row, fetching_row, gots, last_got, login_row, new_download, unnoted, whole_gots, whole_row}
+unfoldable pub use Rattle.ftl0_job.specs.Download.{download_row}
 pub use Rattle.ftl0_job.specs.Due.{DuePacket, due_by, due_from, due_in, in_job, in_work}
 pub use Rattle.ftl0_job.specs.JobState.{GoBy, HasTask, IsCheckedIn, IsNotBegun}
 pub use Rattle.ftl0_job.specs.Promises.{EndPromises, JobStands}
 pub use Rattle.ftl0_job.specs.Row.{Row, ends, ends_later, goes_on, strange, strange_ending}
-pub use Rattle.ftl0_job.specs.Table.{JobState, item_row, job_after, job_row, new_job, row_by, row_of}
-pub use Rattle.ftl0_job.specs.Upload.{Upload, ack_row, go_row, may_go, new_upload, number_commands, refusal_of, sending_row, upload_row}
+pub use Rattle.ftl0_job.specs.Table.{JobState, item_row, job_after, new_job, row_by, row_of}
+unfoldable pub use Rattle.ftl0_job.specs.Table.{job_row}
+pub use Rattle.ftl0_job.specs.Upload.{Upload, ack_row, go_row, may_go, new_upload, number_commands, refusal_of, sending_row}
+unfoldable pub use Rattle.ftl0_job.specs.Upload.{upload_row}
 pub use Rattle.ftl0_job.specs.declared.ending.Ending.{Ending}
 pub use Rattle.ftl0_job.specs.declared.ending.Outcome.{Outcome}
 pub use Rattle.ftl0_job.specs.declared.phases.DownloadPhase.{DownloadPhase}
@@ -60,7 +64,8 @@ pub use Rattle.ftl0_session.specs.Downloads.Table.{DownloadRow, Due, asked_file,
 pub use Rattle.ftl0_session.specs.Laws.{AcknowledgedLaw, UploadsLaw}
 pub use Rattle.ftl0_session.specs.Lists.Lists.{CallerList, after_taking, is_of, lists_of_others, selected, shortened}
 pub use Rattle.ftl0_session.specs.Run.{Session}
-pub use Rattle.ftl0_session.specs.Table.{State, by_download, by_upload, command, download_part, greeting, listing, next_due, receiving, sending, session_row, waiting}
+pub use Rattle.ftl0_session.specs.Table.{State, by_download, by_upload, command, download_part, greeting, listing, next_due, receiving, sending, waiting}
+unfoldable pub use Rattle.ftl0_session.specs.Table.{session_row}
 pub use Rattle.ftl0_session.specs.Uploads.Session.{begin_row, continue_row, data_row, end_row, granted_row, is_all, is_theirs, resumed_row, taken_row}
 pub use Rattle.pfh_items.proofs.Offered.{IsOctets-le16, file_parts-text, no_fault, no_front}
 pub use Rattle.pfh_items.specs.Faults.{IsFaultless, content_of, fault_code, header_sum, with_content}

@@ -8,7 +8,8 @@ pub use Rattle.air_attempt.specs.Sides.{ServerSide}
 pub use Rattle.air_attempt.specs.Transfers.{ClientDid, ServerDid, after_event, after_hearing, begun, called_again, connection_at, connection_of, did_by, did_to, has_call, heard_by, job_gone_on, served, ticked_by}
 pub use Rattle.air_files.specs.Kept.{HoldsAck, IsKept}
 pub use Rattle.air_files.specs.SoundStore.{NoneGone}
-pub use Rattle.air_files.specs.Uploads.{IsGoodFile, body_octets, file_ext, file_header, file_name, upload_file, upload_name}
+pub use Rattle.air_files.specs.Uploads.{IsGoodFile, body_octets, file_ext, file_header, file_name, upload_name}
+unfoldable pub use Rattle.air_files.specs.Uploads.{upload_file}
 pub use Rattle.air_rehearsal.specs.Asking.{MayResume, MayTakeFile}
 pub use Rattle.air_rehearsal.specs.Chain.{CarriesOut, DiskStep, Follow, IsCutOff, Stage, StartsAgain, StepBy, last_stage}
 pub use Rattle.air_rehearsal.specs.Counting.{EndsSo, Tells, TellsThen, acked_more, asked_more, cut_more, kept_more, no_counts, one_if, outcome_more, told}
@@ -96,7 +97,7 @@ pub use Rattle.file_entries.specs.Command.{Command, DropsNothing, after_all, beg
 pub use Rattle.file_entries.specs.Follows.{Follows, FollowsLaw}
 pub use Rattle.file_journal.proofs.Offered.{cut_makes, first_all, makes_within, room_always, within_most}
 pub use Rattle.file_journal.specs.Form.{Form}
-pub use Rattle.file_journal.specs.Journal.{journal_of}
+unfoldable pub use Rattle.file_journal.specs.Journal.{journal_of}
 pub use Rattle.file_journal.specs.Kept.{HasRoomFor, alone}
 pub use Rattle.file_journal.specs.Walk.{state}
 pub use Rattle.file_store.proofs.Offered.{after_first-all, cuts-among-all, known_on, like_back, like_entry, like_is_complete, like_octets_length, makes-first, makes-within, on_same, room_for, stands-each}
@@ -130,8 +131,10 @@ pub use Rattle.node.specs.Events.{IsFor, NodeEvent, hears, ticks}
 pub use Rattle.pfh_items.proofs.Offered.{AreItems-stamped_items, one_header, stamped-text}
 pub use Rattle.pfh_items.specs.Faults.{fault_code, field_of, file_parts}
 pub use Rattle.pfh_items.specs.Layout.{FileText, HeaderValue, ItemValue, header_text}
-pub use Rattle.pfh_items.specs.Stamp.{StampValue, is_number_item, is_upload_time_item, is_uploader_item, renewed, stamped, stamped_item, stamped_items, stamped_parts}
-pub use Rattle.pfh_writer.specs.Built.{BuilderValue, built_items, item, mandatory_saying}
+pub use Rattle.pfh_items.specs.Stamp.{StampValue, is_number_item, is_upload_time_item, is_uploader_item, renewed, stamped_item, stamped_items, stamped_parts}
+unfoldable pub use Rattle.pfh_items.specs.Stamp.{stamped}
+pub use Rattle.pfh_writer.specs.Built.{BuilderValue, built_items, item}
+unfoldable pub use Rattle.pfh_writer.specs.Built.{mandatory_saying}
 pub use Rattle.px_base.specs.CallSign.{CallSign, CallText, IsBase, IsCall, OneCall, is_call_char}
 pub use Rattle.px_base.specs.Numbers.{le32, le32_octets}
 pub use Rattle.server_laws.specs.Misses.{FrontOfEventLaw, MissesLaw, begun_in}

@@ -6,13 +6,15 @@ pub use Rattle.air_attempt.specs.Lists.{AreFirstOf, Has, OneIs, Placed}
 pub use Rattle.air_attempt.specs.Party.{AreOver, Asked, EachAttempt, EachSide, IsFileOf, IsLinkOf, OnlyNewestUp, Party, all_over, client_sends, first_party, newest, newest_side, over, server_sends, sessions_over, to_client_delivered, to_server_delivered, upload_of, with_answered, with_newest}
 pub use Rattle.air_attempt.specs.Said.{AsksUpload, Grants, IsAnswer, Offers, octets_come, said_behind_server}
 pub use Rattle.air_attempt.specs.Sides.{ClientSide, IsJob, IsSession, ServerSide, SessionReaches, said_by_server}
-pub use Rattle.air_attempt.specs.Transfers.{ClientDid, ServerDid, after_client_tick, after_event, after_hearing, after_tick, beginning, begun, called_again, connection_of, did_by, did_to, gone_on, has_call, has_session, heard_by, job_gone_on, opened, served, ticked_by}
+pub use Rattle.air_attempt.specs.Transfers.{ClientDid, ServerDid, after_client_tick, after_event, after_hearing, after_tick, beginning, begun, called_again, connection_of, did_by, did_to, gone_on, has_call, has_session, heard_by, job_gone_on, opened, ticked_by}
+unfoldable pub use Rattle.air_attempt.specs.Transfers.{served}
 pub use Rattle.air_files.proofs.Offered.{acked-task, alike-itself, complete-entry, drop-keeps, drop-sound, each-side, facts-first, facts-removed, file-more, found-such, keeps-file, keeps-offer, keeps-task_kept, later-number, no-task, over-alike, place-more, served-itself, side-at, such-first, task-file, task-some, task_for, tasked-acked, tasks-lists}
 pub use Rattle.air_files.specs.Facts.{AreFirstIfAny, GoesOnWithTask, HasFacts, HasFetched, HasNumber, IsGrantKept, IsGranted, IsNumbered, IsOfferKept, Receives, got}
 pub use Rattle.air_files.specs.Laws.{BeginLaw, GrantedAt, GrantsOnce, IsBeginning, IsGreeted, IsSameParty, IsServed, IsWorking, JobGoes, JobKeeps, JobTookFront, LeftIn, LookLike, LooksLike, LooksLikeSession, LooksServed, SessionGoes, SessionKeeps, Stands, StayLaw, job_gone, session_gone, started_with, with_attempt, with_job}
 pub use Rattle.air_files.specs.SoundStore.{IsSoundStore, NoneGone}
 pub use Rattle.air_files.specs.Tasks.{AreTasks, IsTaskFor, IsWork, StandsBy}
-pub use Rattle.air_files.specs.Uploads.{IsGoodFile, body_octets, file_ext, file_header, file_name, upload_file}
+pub use Rattle.air_files.specs.Uploads.{IsGoodFile, body_octets, file_ext, file_header, file_name}
+unfoldable pub use Rattle.air_files.specs.Uploads.{upload_file}
 pub use Rattle.air_world.specs.Cuts.{Changes, ClientDoes, ClientEvent, ClientIsCut, Happens, IsRun, Plays, ServerDoes, ServerEvent, ServerIsCut, WorldStep, broken, client_commands, party_cut, server_commands}
 pub use Rattle.air_world.specs.Events.{ClientPart, ClientTakes, IsPartOf, IsResuming, IsSent, ServerTakes, asking, asking_file, next_upload, part_with, with_current}
 pub use Rattle.air_world.specs.Headline.{HasWhole, HeadlineIn}
@@ -76,7 +78,8 @@ pub use Rattle.ftl0_session.specs.Run.{Session, session_over}
 pub use Rattle.ftl0_session.specs.Table.{State, command, download_part, in_session, next_due, receiving}
 pub use Rattle.ftl0_session.specs.Uploads.Session.{is_same_call}
 pub use Rattle.node.specs.Events.{NodeEvent, hears, ticks}
-pub use Rattle.pfh_items.specs.Faults.{IsFaultless, StandsOnce, code_of, fault_code, first_fault, header_sum, with_content}
+pub use Rattle.pfh_items.specs.Faults.{IsFaultless, StandsOnce, code_of, fault_code, header_sum, with_content}
+unfoldable pub use Rattle.pfh_items.specs.Faults.{first_fault}
 pub use Rattle.pfh_items.specs.Laws.{HasNoFault, HasNoFront}
 pub use Rattle.px_base.specs.CallSign.{CallSign, IsCall, is_call_char}
 pub use Rattle.px_base.specs.Octets.{IsFront, IsOctets}

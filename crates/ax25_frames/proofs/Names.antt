@@ -4,7 +4,8 @@ pub use Rattle.ax25_frames.specs.Faults.{BeginsFrame, FailsAt, FaultAt, IsRestFa
 pub use Rattle.ax25_frames.specs.FrameText.{FrameText, FrameValue, IsFrame, canonical}
 pub use Rattle.ax25_frames.specs.Kinds.{CanWrite, FitsControl, FitsKind, IsNoControl, KindValue, SaysControl, bit, control_octet, fields_of, information_fields, kind_octets, kind_row, poll_bit}
 pub use Rattle.ax25_frames.specs.Laws.{IsCanonical, IsFrameOrFault, IsNoFrame, IsOneFault, IsOneFrame}
-pub use Rattle.ax25_frames.specs.Reading.{AddressesAt, EntryAt, RepeatersAt, characters_begun, is_blank, is_character, run_length}
+pub use Rattle.ax25_frames.specs.Reading.{AddressesAt, EntryAt, RepeatersAt, is_blank, is_character, run_length}
+unfoldable pub use Rattle.ax25_frames.specs.Reading.{characters_begun}
 pub use Rattle.ax25_frames.specs.Values.{bare_value, kind_value, value_of}
 pub use Rattle.ax25_frames.specs.declared.control.Control.{Control}
 pub use Rattle.ax25_frames.specs.declared.frame.FrameFault.{FrameFault}

@@ -9,7 +9,8 @@ pub use Rattle.client_notes.specs.Notes.{GotFile, Lists, Task, got_of, is_file_o
 pub use Rattle.client_notes.specs.NotesLaws.{notes_number, notes_seen}
 pub use Rattle.client_notes.specs.Noting.{lists_of, turn_of, without}
 pub use Rattle.client_notes.specs.OnDisk.{Answers, Does, EachImage, IsBeforeOrAfter}
-pub use Rattle.client_notes.specs.Records.{IsWritable, Writes, acked_in, command_of, forgot_by, forgot_in, fresh_notes, got_by, got_in, is_start_len, notes_form, notes_step, notes_steps, numbered_in, record_of_command, refused_in, start_by, start_content, start_in}
+pub use Rattle.client_notes.specs.Records.{IsWritable, Writes, acked_in, forgot_by, forgot_in, fresh_notes, got_by, got_in, is_start_len, notes_form, notes_step, notes_steps, numbered_in, record_of_command, refused_in, start_by, start_content, start_in}
+unfoldable pub use Rattle.client_notes.specs.Records.{command_of}
 pub use Rattle.client_notes.specs.Recovery.{AnswersRecovery, IsRecovered, Recovers, StandsAlike}
 pub use Rattle.client_notes.specs.Several.{CutsOff, DoesSeveral, MakesBetween, MakesFirst, after_first, notes_on}
 pub use Rattle.client_notes.specs.State.{IsReady, NotesState, StandsFor, StandsOn}

@@ -1,10 +1,13 @@
 -- The names of specs, and of the crates below, that proofs use, in one place.
-pub use Rattle.clap.specs.Faults.{built_fault, check_fault, fault_of, flags_fault, is_free_app, is_simple_and_free, level_fault, long_fault, option_fault, settle_fault, stray_fault, turn_fault, use_fault, walk_fault}
+pub use Rattle.clap.specs.Faults.{built_fault, check_fault, fault_of, is_free_app, is_simple_and_free, level_fault, long_fault, option_fault, settle_fault, stray_fault, turn_fault, use_fault}
+unfoldable pub use Rattle.clap.specs.Faults.{flags_fault, walk_fault}
 pub use Rattle.clap.specs.Kinds.{Kinds, or_else}
 pub use Rattle.clap.specs.Lexer.{has_byte, long_of, short_of, usize_max}
 pub use Rattle.clap.specs.Simple.{App, HasMatchesOf, Shape, built, filled_from, is_buildable, is_ready, is_ready_leaf, is_simple, matches_of, names_of, new_rule, new_shape, with_rule}
-pub use Rattle.clap.specs.Takes.{built_takes, default_passes, is_given, is_valid, level_passes, settle_passes, takes, turn_passes, use_passes, walk_passes}
-pub use Rattle.clap.specs.Walk.{Held, Row, Rule, Waiting, Walk, arg_by_id, arg_by_index, arg_by_long, arg_by_short, at_row, finished, first_of, has_row, idle, is_early_multiple, more_values, nothing_held, option, rows_after, rows_of, settled_rows, used, walked, with_default, with_values, without}
+pub use Rattle.clap.specs.Takes.{built_takes, default_passes, is_given, is_valid, level_passes, settle_passes, takes, turn_passes, use_passes}
+unfoldable pub use Rattle.clap.specs.Takes.{walk_passes}
+pub use Rattle.clap.specs.Walk.{Held, Row, Rule, Waiting, Walk, arg_by_id, arg_by_index, arg_by_long, arg_by_short, at_row, finished, first_of, has_row, idle, is_early_multiple, more_values, nothing_held, option, rows_after, rows_of, settled_rows, used, with_default, with_values, without}
+unfoldable pub use Rattle.clap.specs.Walk.{walked}
 pub use Rattle.clap.specs.Words.{app_of}
 pub use Rattle.command_words.specs.Asked.{AsksFor, AsksRehearseFor, IsRehearseText}
 pub use Rattle.command_words.specs.Clients.{AreTermsInRange, ClientText, FetchText, HexText, ListText, SendText, TermsText, client_options}

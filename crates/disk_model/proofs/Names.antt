@@ -24,7 +24,8 @@ pub use Rattle.std.proofs.lemmas.List.Elements.{All-append, All-drop, All-from_g
 pub use Rattle.std.proofs.lemmas.List.Sums.{fold-append, sum_by-append}
 pub use base.Logic.{SProp, ent}
 pub use contract.Monad.{Fun}
-pub use contract.Running.{tables, tables_of}
+pub use contract.Running.{tables}
+unfoldable pub use contract.Running.{tables_of}
 pub use denote.Builtin.{RefOf}
 pub use denote.Exit.{yes}
 pub use denote.RattleType.{RattleType, Valss, owns}

@@ -16,6 +16,7 @@ pub use Rattle.file_journal.specs.Form.{Form, StandsFor, TellsItsNumber, record_
 pub use Rattle.file_journal.specs.Formatting.{IsFinishing, IsMakingEven, IsMakingGates, MakesEven, MakesGates}
 pub use Rattle.file_journal.specs.Header.{HasHeader}
 pub use Rattle.file_journal.specs.Journal.{HasGates, HasGoodHeader, IsAfterFinishing, IsAfterRecovery, IsBeforeOrAfter, IsSameStore, Standing, bad_number, even_header, even_selector, header_text, is_block_number, no_store, read_half, store, store_of, with_last}
+unfoldable pub use Rattle.file_journal.specs.Journal.{journal_of}
 pub use Rattle.file_journal.specs.Kept.{Course, Does, DoesInTurn, HasRoomFor, IsCut, IsKept, KeptOn, Paces, StandsAt, alone, kept_on}
 pub use Rattle.file_journal.specs.Laws.{ComesTo, IsOneWalk, IsRefusedAt}
 pub use Rattle.file_journal.specs.Layout.{Blocks, HasBlocks, HoldSame, block_in, block_place, blocks_on, first_gate, half_by, half_end, half_gate, half_in, half_size, other_half, rewriting_calls, selector_of, up_to}
@@ -24,6 +25,7 @@ pub use Rattle.file_journal.specs.Next.{IsReadable, ReadsNext, RefusesAt}
 pub use Rattle.file_journal.specs.Position.{HasRoom, IsAt, IsSameJournal, MovesOn, Position, StandsAmong, StandsOn, end_of, gate_of, left_to_read, position_at_first, readable, room_in, store_in}
 pub use Rattle.file_journal.specs.Putting.{GoesOn, StandsForEither, StaysKept, TurnsInto, seen_on}
 pub use Rattle.file_journal.specs.Records.{HasRecord, IsRecord, Reading, Record, StandsFrom, StartsClosed, StartsCut, broken, reading_at, record_in, record_len, record_of, record_text, records_text, starts_whole, whole, with_end, with_record, with_records}
+unfoldable pub use Rattle.file_journal.specs.Records.{reading_from, reading_within}
 pub use Rattle.file_journal.specs.Recovery.{IsRecovered, IsRecovering, IsSyncedFirst, Recovers, RefusesExactly, gate_in, number_in}
 pub use Rattle.file_journal.specs.Restoring.{AnswersRecovery, IsRestored, StandsAlike}
 pub use Rattle.file_journal.specs.Rewriting.{Chooses, Covers, IsChoosing, IsRewriting, KeepsBlocks, Lays, LeavesRewriting, MayRewrite, Rewrites, WritesAnew, anew_text, other_gate, rewritten}

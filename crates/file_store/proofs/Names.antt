@@ -45,7 +45,8 @@ pub use Rattle.file_store.specs.Upload.{FillsBlock, FitsBytes, FitsWaiting, HasE
 pub use Rattle.file_store.specs.Working.{CutsOffAmongReads, DoesAmongReads, PutsAmongReads}
 pub use Rattle.file_store.specs.declared.change.EntriesChange.{EntriesChange}
 pub use Rattle.file_store.specs.declared.refusals.BeginRefusal.{BeginRefusal}
-pub use Rattle.pfh_items.specs.Faults.{StandsOnce, file_parts, has_none, is_one_of_len, items_with}
+pub use Rattle.pfh_items.specs.Faults.{StandsOnce, has_none, is_one_of_len, items_with}
+unfoldable pub use Rattle.pfh_items.specs.Faults.{file_parts}
 pub use Rattle.px_base.specs.CallSign.{CallSign}
 pub use Rattle.std.proofs.lemmas.Bool.{and_from, and_parts, eq-eqb, eqb-true, ltb-true}
 pub use Rattle.std.proofs.lemmas.Bool.Decides.{eqb_tells, nat_tests}

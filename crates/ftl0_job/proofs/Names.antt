@@ -13,17 +13,22 @@ pub use Rattle.client_notes.specs.declared.progress.Progress.{Progress}
 pub use Rattle.client_notes.specs.declared.refusals.NotesRefusal.{NotesRefusal}
 pub use Rattle.disk_model.specs.declared.disk.Disk.{Ghosts}
 pub use Rattle.disk_model.specs.declared.halt.Halt.{Halt}
-pub use Rattle.ftl0_job.specs.Directory.{Directory, directory_row, is_empty_code, longest_listing, with_octets}
-pub use Rattle.ftl0_job.specs.Download.{Download, data_end_row, data_row, done_row, download_row, error_row, gots, last_got, login_row, unnoted, whole_gots, whole_row, with_rest}
+pub use Rattle.ftl0_job.specs.Directory.{Directory, is_empty_code, longest_listing, with_octets}
+unfoldable pub use Rattle.ftl0_job.specs.Directory.{directory_row}
+pub use Rattle.ftl0_job.specs.Download.{Download, data_end_row, data_row, done_row, error_row, gots, last_got, login_row, unnoted, whole_gots, whole_row, with_rest}
+unfoldable pub use Rattle.ftl0_job.specs.Download.{download_row}
 pub use Rattle.ftl0_job.specs.Due.{DuePacket, PutsDue, due_by, due_from, due_in, in_job, in_work, most_data, next_due, place_after, upload_due}
 pub use Rattle.ftl0_job.specs.JobState.{GoBy, GoWith, HasGot, HasTask, IsCheckedIn, IsNotBegun, IsTaskOf, NotesGoWith, number_in}
 pub use Rattle.ftl0_job.specs.Laws.{Acknowledges, BegunLaw, DueLaw, IsAckedIn, IsOwned, IsStarted, ListedLaw, PromisesLaw, ShortLaw, reached, started}
 pub use Rattle.ftl0_job.specs.Noting.{HasNoted, IsAnswer, IsAnswerOf, IsBefore, NotesAtOnce}
 pub use Rattle.ftl0_job.specs.Row.{Row, ends, ends_later, goes_on, later, strange}
-pub use Rattle.ftl0_job.specs.Short.{AreItemsOf, IsItemOf, are_headers, are_items, are_short_headers, begins_item, is_short_header, item_len, item_start, short_len}
-pub use Rattle.ftl0_job.specs.Table.{JobState, ended_row, item_row, job_row, listing_of, new_job, packet_row, row_by, row_of}
+pub use Rattle.ftl0_job.specs.Short.{AreItemsOf, IsItemOf, are_short_headers, begins_item, is_short_header, item_len, item_start, short_len}
+unfoldable pub use Rattle.ftl0_job.specs.Short.{are_headers, are_items}
+pub use Rattle.ftl0_job.specs.Table.{JobState, ended_row, item_row, listing_of, new_job, packet_row, row_by, row_of}
+unfoldable pub use Rattle.ftl0_job.specs.Table.{job_row}
 pub use Rattle.ftl0_job.specs.Taking.{AnswersAlone, Gives, StopsAt, TakesPacket, TakesRow, with_notes}
-pub use Rattle.ftl0_job.specs.Upload.{IsWithin, Upload, in_phase, is_complete, is_new, may_go, new_upload, number_commands, refusal_of, upload_row}
+pub use Rattle.ftl0_job.specs.Upload.{IsWithin, Upload, in_phase, is_complete, is_new, may_go, new_upload, number_commands, refusal_of}
+unfoldable pub use Rattle.ftl0_job.specs.Upload.{upload_row}
 pub use Rattle.ftl0_job.specs.declared.ending.Ending.{Ending}
 pub use Rattle.ftl0_job.specs.declared.phases.DirectoryPhase.{DirectoryPhase}
 pub use Rattle.ftl0_job.specs.declared.phases.DownloadPhase.{DownloadPhase}

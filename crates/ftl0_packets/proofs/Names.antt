@@ -3,7 +3,8 @@ pub use Rattle.ftl0_packets.specs.Items.{texts}
 pub use Rattle.ftl0_packets.specs.Laws.{FrontLaw, IsOneStream, IsReadAgain, IsReadAsStream, IsRestBefore, ReadsFront}
 pub use Rattle.ftl0_packets.specs.Layout.{Fits, Item, PacketText, PacketValue, data_end, data_part, dir_long_cmd, dir_short_cmd, dl_aborted_resp, dl_ack_cmd, dl_completed_resp, dl_error_resp, dl_nak_cmd, download_cmd, has_length, information, kind_of, login_resp, packet_text, select_cmd, select_resp, text_of, ul_ack_resp, ul_error_resp, ul_go_resp, ul_nak_resp, upload_cmd}
 pub use Rattle.ftl0_packets.specs.Pieces.{TakesAll}
-pub use Rattle.ftl0_packets.specs.Reading.{is_malformed, is_whole, item_from, malformed_in, packet_from, packets_of, packets_within, read_item, rest_of, rest_within, text_len, under_way}
+pub use Rattle.ftl0_packets.specs.Reading.{is_whole, item_from, packet_from, packets_within, rest_within, text_len, under_way}
+unfoldable pub use Rattle.ftl0_packets.specs.Reading.{is_malformed, malformed_in, packets_of, read_item, rest_of}
 pub use Rattle.ftl0_packets.specs.Stream.{IsPartial, Stream}
 pub use Rattle.ftl0_packets.specs.Values.{item_of, items_of}
 pub use Rattle.px_base.specs.Octets.{IsFront, IsOctets}

@@ -30,7 +30,8 @@ pub use Rattle.ftl0_session.specs.Downloads.Laws.{BeginWithHeaders, IsSent, Send
 pub use Rattle.ftl0_session.specs.Downloads.Needs.{AreComplete, AreFiles, AreStored, IsDueIn, IsStored, KeepsFiles, LiesIn}
 pub use Rattle.ftl0_session.specs.Downloads.Sending.{after_octets, due_len, due_octets, is_due, is_read, is_stored, joined, most_data, moved, octets_due, octets_left, state_after, state_at_end}
 pub use Rattle.ftl0_session.specs.Downloads.Spans.{due_of}
-pub use Rattle.ftl0_session.specs.Downloads.Table.{DownloadRow, DownloadState, Due, asked_file, asked_row, chosen, chosen_row, command_row, complete_octets, directory_row, download_cmd_row, download_row, ended_row, file_of, file_row, files_row, has_file, header_due, is_chosen, kept, listed_files, listing, lists_after, long_due, octets_in, ready, refused_row, reply_sending, reply_waiting, select_row, sending, short_due, short_octets, stored, tree_row, waiting}
+pub use Rattle.ftl0_session.specs.Downloads.Table.{DownloadRow, DownloadState, Due, asked_file, asked_row, chosen, chosen_row, complete_octets, directory_row, download_cmd_row, ended_row, file_of, file_row, files_row, has_file, header_due, is_chosen, kept, listed_files, listing, lists_after, long_due, octets_in, ready, refused_row, reply_sending, reply_waiting, select_row, sending, short_due, short_octets, stored, tree_row, waiting}
+unfoldable pub use Rattle.ftl0_session.specs.Downloads.Table.{command_row, download_row}
 pub use Rattle.ftl0_session.specs.Downloads.Taking.{IsRow, Made, MakesRow, SelectsBy, SelectsNone, TakesByRow, due_by, made, made_by}
 pub use Rattle.ftl0_session.specs.Downloads.View.{}
 pub use Rattle.ftl0_session.specs.Filling.{IsDue, PutsDue}
@@ -45,7 +46,8 @@ pub use Rattle.ftl0_session.specs.Uploads.Failures.{Failure, NoReadFails, failed
 pub use Rattle.ftl0_session.specs.Uploads.Laws.{IsNoFault, RowsLaw}
 pub use Rattle.ftl0_session.specs.Uploads.Others.{KeepsOtherCallers}
 pub use Rattle.ftl0_session.specs.Uploads.Run.{CommandsOfLaw, commands_of, on_row, replies_to, store_after}
-pub use Rattle.ftl0_session.specs.Uploads.Session.{aborting, begin_row, command, continue_row, fault_reply, granted_row, is_all, is_theirs, is_upload_kind, receiving, resumed_row, row_by_read, row_unread, session_row, silent_row, taken_row, unread_row, whole_row}
+pub use Rattle.ftl0_session.specs.Uploads.Session.{aborting, begin_row, command, continue_row, fault_reply, granted_row, is_all, is_theirs, is_upload_kind, receiving, resumed_row, row_by_read, row_unread, silent_row, taken_row, unread_row, whole_row}
+unfoldable pub use Rattle.ftl0_session.specs.Uploads.Session.{session_row}
 pub use Rattle.ftl0_session.specs.Uploads.SessionState.{IsHeld, IsOnlyOut, NoOtherOut, PhaseIsHeld, SessionState, number_of, receiving_of, state_of}
 pub use Rattle.ftl0_session.specs.Uploads.Taking.{Answered, AnsweredAlone, AnswersRefusal, LooksAtNone, MakesAnyway, TakesPacket, row_of, working_at}
 pub use Rattle.ftl0_session.specs.declared.downloads.downloads.Phase.{}

@@ -1,5 +1,6 @@
 -- The names of specs, and of the crates below, that proofs use, in one place.
-pub use Rattle.kiss.specs.KissText.{HasNoFend, but_last, data_on_port_0, escape, escape_octet, fend, fesc, frame_of, from_last_fend, has_octets, is_fend, kiss_frames, kiss_parts, kiss_text, most_octets, part_of, part_of_text, pieces, tfend, tfesc, unescape, with_front}
+pub use Rattle.kiss.specs.KissText.{HasNoFend, but_last, data_on_port_0, escape, escape_octet, fend, fesc, frame_of, from_last_fend, has_octets, is_fend, kiss_text, most_octets, part_of, part_of_text, pieces, tfend, tfesc, unescape, with_front}
+unfoldable pub use Rattle.kiss.specs.KissText.{kiss_frames, kiss_parts}
 pub use Rattle.kiss.specs.Laws.{AllFramesReadBack, AllReadBack, EscapesOneWay, FramesGoOn, FramesHaveOctets, HasOctets, PartsGoOn, ReadsBack}
 pub use Rattle.kiss.specs.ReaderMemory.{IsPlain, IsStep, heard_in, hearing, parts_of_text}
 pub use Rattle.kiss.specs.declared.reader.State.{State}

@@ -1,10 +1,12 @@
 -- The names of specs, and of the crates below, that proofs use, in one place.
-pub use Rattle.pfh_items.specs.Faults.{BeginsHeader, FirstFault, FitsFile, HasMandatory, IsFaultless, IsFound, Stands, StandsOnce, begins_header, content_of, fault_of, fault_of_parts, field_of, file_parts, first_fault, fits_file, has_mandatory, has_none, header_before, header_sum, is_one_of_len, items_with, with_content}
+pub use Rattle.pfh_items.specs.Faults.{BeginsHeader, FirstFault, FitsFile, HasMandatory, IsFaultless, IsFound, Stands, StandsOnce, begins_header, content_of, fault_of, fault_of_parts, field_of, fits_file, has_mandatory, has_none, header_before, header_sum, is_one_of_len, items_with, with_content}
+unfoldable pub use Rattle.pfh_items.specs.Faults.{file_parts, first_fault}
 pub use Rattle.pfh_items.specs.Laws.{HasNoFault, HasNoFront, IsOctetsAsBody, IsOneFault, IsOneHeader, IsOneStamp, IsOneWalk}
 pub use Rattle.pfh_items.specs.Layout.{AreItems, FileText, HeaderText, HeaderValue, IsItem, ItemValue, end_item, header_start, header_text, item_text, items_text}
 pub use Rattle.pfh_items.specs.Table.{extended_items, mandatory_items}
 pub use Rattle.pfh_items.specs.Values.{GivesItem, item_value, items_left, whole_items}
-pub use Rattle.pfh_items.specs.Walk.{ItemList, ItemsFrom, StartsCut, StopsAt, item_in, item_len, items_from, items_within, starts_end, starts_whole, with_item}
+pub use Rattle.pfh_items.specs.Walk.{ItemList, ItemsFrom, StartsCut, StopsAt, item_in, item_len, starts_end, starts_whole, with_item}
+unfoldable pub use Rattle.pfh_items.specs.Walk.{items_from, items_within}
 pub use Rattle.pfh_items.specs.declared.items.Item.{Item}
 pub use Rattle.pfh_items.specs.declared.items.Stop.{Stop}
 pub use Rattle.pfh_items.specs.declared.items.Stop.TheVariants.{EndItem, Ran}

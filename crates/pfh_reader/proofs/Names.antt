@@ -1,6 +1,7 @@
 -- The names of specs, and of the crates below, that proofs use, in one place.
 pub use Rattle.pfh_items.proofs.Offered.{BeginsHeader-begins_header, BeginsHeader-text, FitsFile-fits_file, IsChosen, IsFound-chosen, IsOctets-slice, ItemsFrom-items_from, begins_header-BeginsHeader, body_test, chosen-by, fault_of-is, file_parts-ran, first_fault-none, first_fault-text, header_test, item_at, items_from-ran, none-FileText, once_each, one_header, short-StartsCut}
-pub use Rattle.pfh_items.specs.Faults.{BeginsHeader, FirstFault, IsFaultless, IsFound, begins_header, code_of, content_of, fault_code, fault_of, fault_of_parts, file_parts, first_fault, fits_file, has_mandatory, has_none, header_sum, is_one_of_len, items_with, with_content}
+pub use Rattle.pfh_items.specs.Faults.{BeginsHeader, FirstFault, IsFaultless, IsFound, begins_header, code_of, content_of, fault_code, fault_of, fault_of_parts, file_parts, fits_file, has_mandatory, has_none, header_sum, is_one_of_len, items_with, with_content}
+unfoldable pub use Rattle.pfh_items.specs.Faults.{first_fault}
 pub use Rattle.pfh_items.specs.Layout.{AreItems, FileText, IsItem, ItemValue, end_item, header_start, header_text, item_text, items_text}
 pub use Rattle.pfh_items.specs.Table.{mandatory_items}
 pub use Rattle.pfh_items.specs.Values.{item_value}

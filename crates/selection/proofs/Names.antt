@@ -3,7 +3,8 @@ pub use Rattle.px_base.specs.Octets.{IsOctets}
 pub use Rattle.selection.specs.Faults.{FirstFault, FoundAt, IsUnknown, StartsCut, StartsLacking, StartsUnknown, TreesThen}
 pub use Rattle.selection.specs.Layout.{AndOf, AreTrees, Compare, ComparisonValue, IsComparison, IsTree, NotOf, OrOf, Postfix, Tree, comparison_text, most_tokens, operands_of, operator_octet, relation_octet, tokens_of, tokens_of_trees, tree_text, trees_text}
 pub use Rattle.selection.specs.Meaning.{holds, number, satisfies}
-pub use Rattle.selection.specs.Reading.{Comparing, Operating, TokenValue, comparison_in, fault_at, go_on, one_of, operated, operator_of, read_as, read_comparison, read_operator, relation_of, step_by, token_in, token_len, tree_in, trees_after, trees_from, with_trees}
+pub use Rattle.selection.specs.Reading.{Comparing, Operating, TokenValue, comparison_in, fault_at, go_on, one_of, operated, operator_of, read_as, read_comparison, read_operator, relation_of, step_by, token_len, trees_after, with_trees}
+unfoldable pub use Rattle.selection.specs.Reading.{token_in, tree_in, trees_from}
 pub use Rattle.selection.specs.Values.{CountsAs, LeavesAs, ReadsAs, StepsAs, comparison_value, operands_needed, token_value, tree_of, truths_of}
 pub use Rattle.selection.specs.declared.fault.SelFault.{SelFault}
 pub use Rattle.selection.specs.declared.fault.SelFault.TheVariants.{BadOp, Cut, Empty, Few, Left, Many}

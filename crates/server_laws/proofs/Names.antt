@@ -27,7 +27,8 @@ pub use Rattle.ftl0_server.specs.Slots.{PlacesSend, Slot, SlotSends, all_freed, 
 pub use Rattle.ftl0_session.proofs.Offered.{OfUploads, if-there, session-case, upload-case}
 pub use Rattle.ftl0_session.specs.Lists.Lists.{CallerList, has_left}
 pub use Rattle.ftl0_session.specs.Run.{Session, session_over}
-pub use Rattle.ftl0_session.specs.Table.{DuePacket, Row, State, aborting, by_upload, command, download_part, download_row, downloading, due_at, failed_reads_told, in_session, next_due, receiving, row_among, row_at, session_row, state_by, upload_part, upload_row}
+pub use Rattle.ftl0_session.specs.Table.{DuePacket, Row, State, aborting, by_upload, command, download_part, download_row, downloading, due_at, failed_reads_told, in_session, next_due, receiving, row_among, row_at, state_by, upload_part, upload_row}
+unfoldable pub use Rattle.ftl0_session.specs.Table.{session_row}
 pub use Rattle.ftl0_session.specs.Uploads.Failures.{Failure, NoReadFails, failed_reads, read_fails, write_fails}
 pub use Rattle.ftl0_session.specs.Uploads.Session.{is_all, is_theirs}
 pub use Rattle.node.specs.Events.{NodeEvent, hears, ticks}

@@ -13,6 +13,7 @@ pub use Rattle.ftl0_packets.proofs.OctetLemmas.{IsOctets-append, IsOctets-nil, I
 pub use Rattle.ftl0_packets.proofs.SplitLemmas.{left-octets, left-waits, nothing_partial, octets_back, octets_front, octets_under_way, read-append, read-stream, stream_of, texts-append, under-way-less, under-way-whole}
 pub use Rattle.ftl0_packets.specs.Layout.{Item, PacketText, PacketValue}
 pub use Rattle.ftl0_packets.specs.Reading.{is_whole, packets_of, under_way}
+unfoldable pub use Rattle.ftl0_packets.specs.Reading.{rest_of}
 pub use Rattle.ftl0_packets.specs.Stream.{IsPartial, Stream}
 pub use Rattle.ftl0_server.proofs.Offered.{empties-silent, known-or-not, serves, serves-append, serves-one, silent-settled, uncut}
 pub use Rattle.ftl0_server.specs.ServerState.{SendsFor, server_pending}

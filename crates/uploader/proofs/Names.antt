@@ -44,7 +44,8 @@ pub use Rattle.std.specs.Prelude.{Err, IsErrOf, MatchResult, None, Ok, OnErr, Op
 pub use Rattle.uploader.specs.Carried.{Carries, RecoversTo, asked_of, client_from, client_of}
 pub use Rattle.uploader.specs.Causes.{HasCauses, is_before_outcome}
 pub use Rattle.uploader.specs.Fetching.{Fetches, FileAsked, KeepsBy, download_of, file_asked}
-pub use Rattle.uploader.specs.Lines.{file_line, first_lines, listing_lines, short_len}
+pub use Rattle.uploader.specs.Lines.{file_line, listing_lines, short_len}
+unfoldable pub use Rattle.uploader.specs.Lines.{first_lines}
 pub use Rattle.uploader.specs.Listing.{FilesAsked, ListsFiles, ShowsBy, directory_of, files_asked}
 pub use Rattle.uploader.specs.Loading.{HasShelfCause, IsPastFile, IsSendable, IsUnfit, LoadsExactly, RefusesFile, sum_of}
 pub use Rattle.uploader.specs.OnDisk.{EndsExactly, RefusesNotes}
