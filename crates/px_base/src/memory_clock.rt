@@ -6,6 +6,7 @@ ghost use Rattle.px_base.specs.Outside.{counted};
 
 use crate::clock::Clock;
 use crate::memory::OutOfMemory;
+use crate::moment::Moment;
 use std::alloc::Global;
 use std::marker::Model;
 
@@ -28,7 +29,7 @@ impl Model for MemoryClock {
 }
 
 impl MemoryClock {
-    /// A clock that gives these moments. Takes memory.
+    /// A clock that gives these moments, in seconds since 1 January 1970. Takes memory.
     pub fn new(alloc: Global, moments: &[u32]) -> Result<MemoryClock, OutOfMemory>
         requires { 1 ≤ length moments.now }
         ensures { IfOk result (λ clock. clock ≡ record { moments = moments.now; calls = 0 }) }
@@ -53,7 +54,7 @@ impl Clock for MemoryClock {
     ghost given = { told_given };
 
     /// The next moment, or the last one again.
-    fn now(&mut self) -> u32
+    fn now(&mut self) -> Moment
         ensures given { Gives (told_given self.old) (told_given self.new) result }
         ensures moment { result ≡ moment_after self.old.calls self.old.moments }
         ensures calls { self.new ≡ record self.old { calls = counted self.old.calls } }
@@ -61,6 +62,6 @@ impl Clock for MemoryClock {
         let last = self.moments.len() - 1;
         let place = (self.calls as usize).min(last);
         self.calls = self.calls.saturating_add(1);
-        self.moments[place]
+        Moment::new(self.moments[place])
     }
 }

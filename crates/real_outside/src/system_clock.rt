@@ -5,13 +5,13 @@ ghost use Rattle.real_outside.specs.Clocks.{ReadsOnce, moment_of as moment_of_re
 
 use crate::system_error::SystemError;
 use crate::time_source::{SystemTime, TimeSource};
-use px_base::Clock;
+use px_base::{Clock, Moment};
 use std::marker::Model;
 use std::rt;
 use std::time::Duration;
 
 /// The system's clock, whose time is read at each call. A moment before 1970 is 0, and so is that of a time that can't be
-/// read; one past the last `u32` is that.
+/// read; one past the last that a [`Moment`] holds is that.
 #[derive(Drop)]
 pub struct SystemClock<T> {
     source: T,
@@ -52,7 +52,7 @@ impl<T: TimeSource> Clock for SystemClock<T> {
     ghost given = { λ _. None };
 
     /// The moment of one reading.
-    fn now(&mut self) -> u32
+    fn now(&mut self) -> Moment
         ensures reads { ReadsOnce (T.readings self.old) (T.readings self.new) result }
     {
         moment_of(self.source.since_1970())
@@ -60,11 +60,11 @@ impl<T: TimeSource> Clock for SystemClock<T> {
 }
 
 /// The moment of this reading: whole seconds, up to 2^32 - 1, and 0 where the time can't be read.
-fn moment_of(reading: Result<Duration, SystemError>) -> u32
+fn moment_of(reading: Result<Duration, SystemError>) -> Moment
     ensures { result ≡ moment_of_reading reading }
 {
-    match reading {
+    Moment::new(match reading {
         Ok(since) => u32::try_from(since.as_secs()).unwrap_or(u32::MAX),
         Err(_) => 0,
-    }
+    })
 }
