@@ -1,6 +1,8 @@
 -- What is seen is known where content is told.
 use Rattle.std.proofs.Common.{◌≡◌, inl, inr, List, ℕ, Option, Some, is_some, ap}
-use Rattle.file_journal.proofs.Names.{TellsAlike, Form, Knows}
+use Rattle.disk_model.specs.Runs.{TellsAlike}
+use Rattle.file_journal.specs.Form.{Form}
+use Rattle.file_journal.specs.Steps.{Knows}
 
 pub known_told : {S C : Type 0} (form : Form S C) {content : Option (List ℕ)} (octets : List ℕ) → content ≡ Some octets → Knows form content
 known_told form octets told = inr (ap is_some told)

@@ -1,8 +1,7 @@
 -- What a run of calls does to a state that is kept, and to its disk, where reads come among its commands.
-use Rattle.std.specs.Prelude.{◌≡◌, ◌⊎◌, ℕ, ◌+◌, ◌≤◌, List, Bool, if◌then◌else◌}
-use Rattle.disk_model.specs.Moments.{TimePasses}
+use Rattle.std.specs.Prelude.{ℕ, List}
 use Rattle.disk_model.specs.declared.disk.Disk.{Ghosts}
-use Rattle.disk_model.specs.Runs.{ChangesReads, CountsFault, TellsAlike}
+use Rattle.disk_model.specs.Runs.{ChangesReads, CountsSome, PutsAmongReads}
 use Rattle.file_journal.specs.Form.{Form}
 use Rattle.file_journal.specs.Kept.{Course, DoesInTurn, KeptOn}
 
