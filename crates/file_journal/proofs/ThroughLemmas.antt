@@ -1,7 +1,7 @@
 -- What stands on the disk from the recovery of a state on, through commands.
 use Rattle.std.proofs.Common.{◌≡◌, ◌≢◌, ◌⊎◌, inl, inr, ⊎_elim, ℕ, ◌+◌, ◌≤◌, List, ◌++◌, length, Some, IfSome, refl, ◌∙◌, ap, subst, arith, length-append, ◌<◌, Bool, true, false, [], sym}
 use Rattle.file_journal.specs.Through.{HadRoom, StandsThrough}
-use Rattle.file_journal.proofs.Names.{⊤, Ghosts, CountsSome, PutsAmongReads, Leaves, Runs, TellsAlike, MakesFirst, StayDone, calls_of, done_at, Form, StandsFor, TellsItsNumber, standing_of, Course, DoesInTurn, IsCut, KeptOn, IsSyncedFirst, StandsAlike, state, joined, weaker, alike_on, at_told, if_told, knew, known_told, knows_on, told_before, told_weaker, Halves, common_steps, DoesAmongReads, among_reads, one_if, ChangesReads, CountsFault, Puts, Reads, Does, IsKept, alone, kept_on, Position, changes_none, changes_on, counts_on, counts_same, reads, alike_same}
+use Rattle.file_journal.proofs.Names.{among_on, puts_among, puts_among_same, puts_among_then, some_one, some_still, ⊤, Ghosts, CountsSome, PutsAmongReads, Leaves, Runs, TellsAlike, MakesFirst, StayDone, calls_of, done_at, Form, StandsFor, TellsItsNumber, standing_of, Course, DoesInTurn, IsCut, KeptOn, IsSyncedFirst, StandsAlike, state, joined, weaker, alike_on, at_told, if_told, knew, known_told, knows_on, told_before, told_weaker, Halves, common_steps, DoesAmongReads, among_reads, one_if, ChangesReads, CountsFault, Puts, Reads, Does, IsKept, alone, kept_on, Position, changes_none, changes_on, counts_on, counts_same, reads, alike_same}
 use Rattle.file_journal.proofs.BoundLemmas.{halves_reads}
 use Rattle.file_journal.proofs.CommandLemmas.{at_all, at_first, makes_none, paced_always, rises_all, rises_calls, room_some}
 use Rattle.file_journal.proofs.DoesLemmas.{turn_both, turn_course, turn_none, turn_then}
@@ -22,12 +22,12 @@ module _ {D : Type 0} (g : Ghosts D) where
     pub among_does : (P : Type 0) (commands : List C) (old new : KeptOn D S) → Does g form P commands old new → DoesAmongReads g form P 0 commands old new
     among_does P commands old new does =
         turn_course g form (alone g P) (among_reads g P 0) P P commands old new (λ p. p) (λ p. p) (λ same. subst (λ (d : D). ChangesReads g old.disk d) (sym same) (changes_none g old.disk))
-        (puts_among P old.disk new.disk) (λ _. some_still _ _ does.puts.reads) does
+        (puts_among g P old.disk new.disk) (λ _. some_still _ _ does.puts.reads) does
 
     pub among_same : (P Q : Type 0) (missed other : ℕ) (commands : List C) (old new : KeptOn D S) → (P → Q) → (Q → P) → missed ≡ other → DoesAmongReads g form P missed commands old new
         → DoesAmongReads g form Q other commands old new
     among_same P Q missed other commands old new there back same does =
-        turn_course g form (among_reads g P missed) (among_reads g Q other) P Q commands old new there back (λ i. i) (puts_among_same P Q old.disk new.disk there back)
+        turn_course g form (among_reads g P missed) (among_reads g Q other) P Q commands old new there back (λ i. i) (puts_among_same g P Q old.disk new.disk there back)
         (subst (λ (n : ℕ). CountsSome (g.read_faults old.disk) (g.read_faults new.disk) n) same) does
 
     -- one part, and then another
@@ -35,7 +35,7 @@ module _ {D : Type 0} (g : Ghosts D) where
         → DoesAmongReads g form P missed a old mid → DoesAmongReads g form Q other b mid new → DoesAmongReads g form Q (missed + other) (a ++ b) old new
     among_then on P Q missed other a b old mid new fine first second =
         turn_then g form (among_reads g P missed) (among_reads g Q other) (among_reads g Q (missed + other)) P Q a b old mid new fine first.puts.told second.puts.told first second
-        (changes_on g old.disk mid.disk new.disk) (puts_among_then on P Q old.disk mid.disk new.disk fine first.puts second.puts) (grind (arith, common_steps))
+        (changes_on g old.disk mid.disk new.disk) (puts_among_then g on P Q old.disk mid.disk new.disk fine first.puts second.puts) (grind (arith, common_steps))
 
 -- ---- from the recovery on, through commands
 
