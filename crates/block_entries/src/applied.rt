@@ -18,7 +18,7 @@ use crate::recorded::Recorded;
 use crate::{BlockReader, CheckFault, CheckedHeader, Entries, PlacedCommand};
 use disk_model::{Disk, DiskFault};
 use file_entries::Info;
-use px_base::Call;
+use px_base::{Call, FileNumber, Moment};
 
 impl Entries {
     /// Applies what a record says: whether the entries allow it, with what the blocks hold. What they don't allow
@@ -89,7 +89,7 @@ impl Entries {
         }
     }
 
-    fn apply_begin(&mut self, number: u32, caller: Call, length: u32, moment: u32) -> bool
+    fn apply_begin(&mut self, number: FileNumber, caller: Call, length: u32, moment: Moment) -> bool
         requires out { NothingOut self.old.files }
         requires rules { IsReadStore (read_of self.old) }
         ensures applied { (content : Option (List ℕ))
@@ -106,7 +106,7 @@ impl Entries {
         true
     }
 
-    fn apply_grow(&mut self, number: u32, block: u32, used: u16) -> bool
+    fn apply_grow(&mut self, number: FileNumber, block: u32, used: u16) -> bool
         requires out { NothingOut self.old.files }
         requires rules { IsReadStore (read_of self.old) }
         ensures applied { (content : Option (List ℕ))
@@ -124,8 +124,8 @@ impl Entries {
         &mut self,
         reader: &R,
         disk: &mut D,
-        number: u32,
-        moment: u32,
+        number: FileNumber,
+        moment: Moment,
         sum: u16,
     ) -> Result<bool, DiskFault>
         requires may_read { R.may_read reader.now disk.old }
@@ -145,7 +145,7 @@ impl Entries {
         Ok(true)
     }
 
-    fn apply_drop(&mut self, number: u32) -> bool
+    fn apply_drop(&mut self, number: FileNumber) -> bool
         requires out { NothingOut self.old.files }
         requires rules { IsReadStore (read_of self.old) }
         ensures applied { (content : Option (List ℕ))
@@ -164,8 +164,8 @@ impl Entries {
         &self,
         reader: &R,
         disk: &mut D,
-        number: u32,
-        moment: u32,
+        number: FileNumber,
+        moment: Moment,
         sum: u16,
     ) -> Result<Option<u16>, DiskFault>
         requires may_read { R.may_read reader.now disk.old }
@@ -185,14 +185,14 @@ impl Entries {
     }
 
     /// Whether the condition of a Grow holds.
-    fn may_grow(&self, number: u32, block: u32, used: u16) -> bool
+    fn may_grow(&self, number: FileNumber, block: u32, used: u16) -> bool
         ensures { (held : Blocks) → result ≡ is_allowed held (store_of self.now.files) (grow number block used) }
     {
         1 <= used && used <= 512 && self.is_free(block) && self.has_room(number, used)
     }
 
     /// Whether the file of this number is under way, and has room for so many further octets in one block.
-    fn has_room(&self, number: u32, used: u16) -> bool
+    fn has_room(&self, number: FileNumber, used: u16) -> bool
         ensures { result ≡ passes_at (store_of self.now.files) number (λ f. can_grow f used) }
     {
         match self.info(number) {
@@ -202,7 +202,7 @@ impl Entries {
     }
 
     /// Whether the file of this number is under way, and all of its octets are held.
-    fn is_whole(&self, number: u32) -> bool
+    fn is_whole(&self, number: FileNumber) -> bool
         ensures { result ≡ passes_at (store_of self.now.files) number is_whole }
     {
         match self.info(number) {
@@ -212,7 +212,7 @@ impl Entries {
     }
 
     /// Whether there is a file of this number under way.
-    fn is_under_way(&self, number: u32) -> bool
+    fn is_under_way(&self, number: FileNumber) -> bool
         ensures { result ≡ passes_at (store_of self.now.files) number is_partial }
     {
         match self.info(number) {

@@ -9,7 +9,7 @@ ghost use Rattle.block_entries.specs.PlacedRecords.{IsWritable, placed_in, recor
 use crate::reading::{read_begin, read_drop, read_grow, read_seal};
 use crate::writing::{put_begin, put_drop, put_grow, put_seal};
 use file_journal::RecordContent;
-use px_base::Call;
+use px_base::{Call, FileNumber, Moment};
 
 /// A command that changes which files there are, and in which blocks their octets stand.
 #[derive(Clone, Copy, Debug)]
@@ -17,18 +17,18 @@ pub enum PlacedCommand {
     /// A file is begun.
     Begin {
         /// Its number.
-        number: u32,
+        number: FileNumber,
         /// Whose file it is.
         caller: Call,
         /// Its length in octets.
         length: u32,
-        /// The moment, in seconds since 1 January 1970.
-        moment: u32,
+        /// The moment.
+        moment: Moment,
     },
     /// Further octets of a file are held.
     Grow {
         /// The file's number.
-        number: u32,
+        number: FileNumber,
         /// The block at whose front they stand.
         block: u32,
         /// How many they are.
@@ -37,16 +37,16 @@ pub enum PlacedCommand {
     /// A file is whole, and is kept with its stamp.
     Seal {
         /// The file's number.
-        number: u32,
-        /// The moment, in seconds since 1 January 1970.
-        moment: u32,
+        number: FileNumber,
+        /// The moment.
+        moment: Moment,
         /// The sum of its header with the stamp.
         sum: u16,
     },
     /// A file is given up.
     Drop {
         /// The file's number.
-        number: u32,
+        number: FileNumber,
     },
 }
 

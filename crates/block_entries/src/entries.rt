@@ -36,7 +36,7 @@ use crate::{
 use block_table::BlockTable;
 use disk_model::{Disk, DiskFault};
 use file_entries::{BeginBar, Info, LAST_NEXT, LONGEST_FILE, MOST_ENTRIES};
-use px_base::{Call, OutOfMemory};
+use px_base::{Call, FileNumber, Moment, OutOfMemory};
 use std::alloc::Global;
 use std::marker::Model;
 
@@ -56,7 +56,7 @@ pub struct Entries {
 }
 
 impl Model for Entries {
-    ghost use Rattle.std.specs.Prelude.{◌≡◌, ◌≤◌, vec_capacity};
+    ghost use Rattle.std.specs.Prelude.{◌≡◌, vec_capacity};
     ghost use Rattle.block_entries.specs.PlacedFiles.{AreKept, EntriesState, files_from, in_runs};
     ghost use Rattle.file_entries.specs.Limits.{most_entries};
 
@@ -69,7 +69,7 @@ impl Model for Entries {
     } };
 
     ghost invariant = { λ a. AreKept a.table.runs a.files.items a.next a.table.limit
-        × (most_entries ≤ vec_capacity a.files) × (a.table.most ≡ most_entries) };
+        × (vec_capacity a.files ≡ most_entries) × (a.table.most ≡ most_entries) };
 }
 
 impl Entries {
@@ -93,13 +93,13 @@ impl Entries {
     }
 
     /// The number that the next file gets. Takes no memory.
-    pub fn next(&self) -> u32
+    pub fn next(&self) -> FileNumber
         ensures next { result ≡ self.now.files.next }
         ensures rules { IsPlaced (store_of self.now.files) }
         ensures some { 1 ≤ self.now.files.blocks }
         ensures most { self.now.files.blocks ≤ 65536 }
     {
-        self.next
+        FileNumber::new(self.next)
     }
 
     /// Why a file of this length can't be begun; `None` where it may be. Takes no memory.
@@ -107,11 +107,11 @@ impl Entries {
         ensures some { (held : Blocks) → IfSome result (λ bar. Bars bar (seen held (store_of self.now.files)) length) }
         ensures none { (held : Blocks) → IfNone result (MayBegin (seen held (store_of self.now.files)) length) }
     {
-        self.begin_bar_as(self.next, length)
+        self.begin_bar_as(FileNumber::new(self.next), length)
     }
 
     /// Why a file of this length can't be begun where this were the next number.
-    pub(crate) fn begin_bar_as(&self, number: u32, length: u32) -> Option<BeginBar>
+    pub(crate) fn begin_bar_as(&self, number: FileNumber, length: u32) -> Option<BeginBar>
         ensures some { (held : Blocks)
             → IfSome result (λ bar. Bars bar (seen held (with_next number (store_of self.now.files))) length) }
         ensures none { (held : Blocks)
@@ -124,7 +124,7 @@ impl Entries {
         if count >= MOST_ENTRIES {
             return Some(BeginBar::TooMany);
         }
-        if number == LAST_NEXT {
+        if number.get() == LAST_NEXT {
             return Some(BeginBar::NumbersGone);
         }
         let blocks = blocks_of_length(length);
@@ -136,17 +136,17 @@ impl Entries {
     }
 
     /// Begins a file, of which no upload is out. Takes no memory.
-    pub fn begin(&mut self, caller: Call, length: u32, moment: u32)
+    pub fn begin(&mut self, caller: Call, length: u32, moment: Moment)
         requires { (held : Blocks) × MayBegin (seen held (store_of self.old.files)) length }
         ensures { let number = self.old.files.next in
             Becomes self.old.files self.new.files
             (with_new (store_of self.old.files) (new_placed number caller length moment)) number None }
     {
-        self.begin_as(self.next, caller, length, moment);
+        self.begin_as(FileNumber::new(self.next), caller, length, moment);
     }
 
     /// Begins a file of this number, which no entry has reached, and of which no upload is out.
-    pub(crate) fn begin_as(&mut self, number: u32, caller: Call, length: u32, moment: u32)
+    pub(crate) fn begin_as(&mut self, number: FileNumber, caller: Call, length: u32, moment: Moment)
         requires rules { IsPlaced (with_next number (store_of self.old.files)) }
         requires may { (held : Blocks) × MayBegin (seen held (with_next number (store_of self.old.files))) length }
         ensures becomes { Becomes self.old.files self.new.files
@@ -157,27 +157,27 @@ impl Entries {
         let file = StoredFile::new(number, caller, length, moment);
         self.table.begin(blocks_of_length(length));
         self.files.push_reserved(file);
-        self.least = number + 1;
+        self.least = number.get() + 1;
         self.next = self.next.max(self.least);
     }
 
     /// Whether a file may be begun with this number, by the records that were read.
-    pub(crate) fn may_have(&self, number: u32) -> bool
+    pub(crate) fn may_have(&self, number: FileNumber) -> bool
         ensures { result ≡ may_have (read_of self.now) number }
     {
-        self.least <= number && number <= self.next
+        self.least <= number.get() && number.get() <= self.next
     }
 
     /// The next number becomes this one, where no record was read yet and a file may have it: whether it did.
-    pub(crate) fn take_next(&mut self, number: u32) -> bool
+    pub(crate) fn take_next(&mut self, number: FileNumber) -> bool
         requires rules { IsReadStore (read_of self.old) }
         ensures next { TakesNext result self.old self.new number }
         ensures rests { (other : ℕ) → rest_of self.new.files other ≡ rest_of self.old.files other }
     {
-        if !self.first || number < self.least {
+        if !self.first || number.get() < self.least {
             return false;
         }
-        self.next = number;
+        self.next = number.get();
         true
     }
 
@@ -189,7 +189,7 @@ impl Entries {
     }
 
     /// An upload of this entry goes out, of which no octet waits. None was out. Takes no memory.
-    pub fn take_out(&mut self, number: u32)
+    pub fn take_out(&mut self, number: FileNumber)
         requires there { IsSome (placed_of (store_of self.old.files) number) }
         requires in_ { rest_of self.old.files number ≡ None }
         ensures { ChangesRest self.old.files self.new.files number (Some []) }
@@ -200,7 +200,7 @@ impl Entries {
 
     /// The upload of this entry that is out, if there is one, is given up; the octets that wait are lost. Takes no
     /// memory.
-    pub fn park(&mut self, number: u32)
+    pub fn park(&mut self, number: FileNumber)
         ensures { ChangesRest self.old.files self.new.files number None }
     {
         if let Some(place) = self.place_of(number) {
@@ -210,7 +210,7 @@ impl Entries {
 
     /// Octets come of the upload of this entry that is out, behind those that wait: with these at most 512. Takes no
     /// memory. The work is that of the octets that come, and of finding the entry.
-    pub fn bring(&mut self, number: u32, bytes: &[u8])
+    pub fn bring(&mut self, number: FileNumber, bytes: &[u8])
         requires out { IsOut self.old.files number }
         requires room { length (octets_or_none (rest_of self.old.files number)) + length bytes.now ≤ 512 }
         ensures { ChangesRest self.old.files self.new.files number (rest_with self.old.files number bytes.now) }
@@ -238,7 +238,7 @@ impl Entries {
 
     /// The octets that wait, all of them, become held, in the lowest block that no file has: a Grow, whose condition
     /// holds. Takes no memory. The work is that of finding the entry, however many octets wait.
-    pub fn hold(&mut self, number: u32, block: u32, count: usize)
+    pub fn hold(&mut self, number: FileNumber, block: u32, count: usize)
         requires waits { Waits self.old.files number count }
         requires allowed { Grows (store_of self.old.files) number block count }
         requires lowest { IsLowest (store_of self.old.files) block }
@@ -253,7 +253,7 @@ impl Entries {
 
     /// Further octets of a file of which no upload is out are held, in this block: a Grow, whose condition holds. Takes
     /// no memory.
-    pub(crate) fn grow(&mut self, number: u32, block: u32, used: u16)
+    pub(crate) fn grow(&mut self, number: FileNumber, block: u32, used: u16)
         requires in_ { rest_of self.old.files number ≡ None }
         requires allowed { Grows (store_of self.old.files) number block used }
         ensures becomes { Becomes self.old.files self.new.files
@@ -267,7 +267,7 @@ impl Entries {
 
     /// Seals a file that is under way and whole, and of which no upload is out, whatever its blocks hold: at this
     /// moment, with the sum and the length of its header, which a check of it found. Takes no memory.
-    pub fn seal(&mut self, number: u32, moment: u32, sum: u16, header_len: u16)
+    pub fn seal(&mut self, number: FileNumber, moment: Moment, sum: u16, header_len: u16)
         requires takes { TakesSeal (store_of self.old.files) number header_len }
         requires in_ { rest_of self.old.files number ≡ None }
         ensures becomes { Becomes self.old.files self.new.files
@@ -287,8 +287,8 @@ impl Entries {
         &self,
         reader: &R,
         disk: &mut D,
-        number: u32,
-        moment: u32,
+        number: FileNumber,
+        moment: Moment,
     ) -> Result<CheckedHeader, CheckFault>
         requires may_read { R.may_read reader.now disk.old }
         requires blocks { R.block_count reader.now ≡ self.now.files.blocks }
@@ -324,7 +324,7 @@ impl Entries {
         &self,
         reader: &R,
         disk: &mut D,
-        number: u32,
+        number: FileNumber,
         offset: u32,
         room: &mut [u8],
     ) -> Result<(), DiskFault>
@@ -353,7 +353,7 @@ impl Entries {
         &self,
         reader: &R,
         disk: &mut D,
-        number: u32,
+        number: FileNumber,
         header: &mut Vec<u8>,
     ) -> Result<(), DiskFault>
         requires may_read { R.may_read reader.now disk.old }
@@ -375,7 +375,7 @@ impl Entries {
     }
 
     /// Drops a file under way. Takes no memory.
-    pub fn drop_entry(&mut self, number: u32)
+    pub fn drop_entry(&mut self, number: FileNumber)
         requires { Passes (store_of self.old.files) number is_partial }
         ensures becomes { Becomes self.old.files self.new.files
             (without_file (store_of self.old.files) number) number None }
@@ -387,7 +387,7 @@ impl Entries {
     }
 
     /// Whether an upload of this number is out. Takes no memory.
-    pub fn is_out(&self, number: u32) -> bool
+    pub fn is_out(&self, number: FileNumber) -> bool
         ensures { IsTrue result ↔ IsOut self.now.files number }
     {
         match self.place_of(number) {
@@ -397,7 +397,7 @@ impl Entries {
     }
 
     /// The octets that wait of the upload of this number, at most 512; none where none is out. Takes no memory.
-    pub fn waiting(&self, number: u32) -> &[u8]
+    pub fn waiting(&self, number: FileNumber) -> &[u8]
         ensures octets { result.now ≡ octets_or_none (rest_of self.now.files number) }
         ensures most { length result.now ≤ 512 }
     {
@@ -408,7 +408,7 @@ impl Entries {
     }
 
     /// What the store tells of the entry of this number, or `None` exactly where there is none. Takes no memory.
-    pub fn info(&self, number: u32) -> Option<Info>
+    pub fn info(&self, number: FileNumber) -> Option<Info>
         ensures info { result ≡ option_map placed_info (placed_of (store_of self.now.files) number) }
         ensures rules { IsPlaced (store_of self.now.files) }
     {
@@ -419,10 +419,12 @@ impl Entries {
     }
 
     /// The least number above this one of a complete file, or `None` exactly where there is none. Takes no memory.
-    pub fn next_complete(&self, above: u32) -> Option<u32>
+    pub fn next_complete(&self, above: FileNumber) -> Option<FileNumber>
         ensures { IsNextSealed (store_of self.now.files) above result }
     {
-        let place = self.files.partition_point(|file| file.number() <= above);
+        let place = self
+            .files
+            .partition_point(|file| file.number().get() <= above.get());
         first_complete(&self.files[place..])
     }
 
@@ -465,7 +467,7 @@ impl Entries {
     }
 
     /// The sealed file of this number, as it is read of a table of the runs in which the files stand.
-    fn sealed_file(&self, number: u32) -> SealedFile
+    fn sealed_file(&self, number: FileNumber) -> SealedFile
         requires { Sealed (store_of self.now.files) number }
         ensures { (table : Table) → HasRuns table (store_of self.now.files)
             → ReadsSealed table (store_of self.now.files) number result }
@@ -477,18 +479,18 @@ impl Entries {
     }
 
     /// The place of the file of this number, found by halving.
-    fn place_of(&self, number: u32) -> Option<usize>
+    fn place_of(&self, number: FileNumber) -> Option<usize>
         ensures some { IfSome result (IsPlace self.now.files.files number) }
         ensures none { IfNone result (file_of self.now.files.files number ≡ None) }
     {
         self.files
-            .binary_search_by_key(&number, |file| file.number())
+            .binary_search_by_key(&number.get(), |file| file.number().get())
             .ok()
     }
 }
 
 /// The number of the first complete one of these files.
-fn first_complete(files: &[StoredFile]) -> Option<u32>
+fn first_complete(files: &[StoredFile]) -> Option<FileNumber>
     ensures { result ≡ option_map (λ f. f.entry.number) (find is_sealed_file files.now) }
 {
     let file = files.iter().find(|file| file.is_complete())?;

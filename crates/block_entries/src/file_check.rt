@@ -8,7 +8,7 @@ ghost use Rattle.pfh_reader.specs.Feed.{fed_len};
 use pfh_items::sum16;
 use pfh_reader::{Checker, HeaderFault};
 use pfh_writer::Stamper;
-use px_base::Call;
+use px_base::{Call, FileNumber, Moment};
 
 /// What a check found of the header of a file that keeps all rules of headers.
 #[derive(Clone, Copy, Debug, PartialEq, Eq)]
@@ -33,7 +33,7 @@ pub(crate) struct FileCheck {
 impl FileCheck {
     /// A check that took nothing: for the file's number, the call of the station that uploaded it, and the moment of
     /// its seal. Takes no memory.
-    pub(crate) fn new(number: u32, by: Call, moment: u32) -> FileCheck
+    pub(crate) fn new(number: FileNumber, by: Call, moment: Moment) -> FileCheck
         ensures checked { HasChecked (record { number = number; by = by; moment = moment }) result [] }
         ensures len { fed_len result.checker ≡ 0 }
     {

@@ -8,7 +8,7 @@ ghost use Rattle.block_entries.specs.PlacedRecords.{seal_in};
 
 use crate::command::PlacedCommand;
 use crate::recorded::Recorded;
-use px_base::{le16, le32, read_call};
+use px_base::{FileNumber, Moment, le16, le32, read_call};
 
 /// The Begin that a content is.
 pub(crate) fn read_begin(content: &[u8]) -> Option<PlacedCommand>
@@ -20,10 +20,10 @@ pub(crate) fn read_begin(content: &[u8]) -> Option<PlacedCommand>
     }
     let caller = read_call(&content[4..11])?;
     Some(PlacedCommand::Begin {
-        number: le32(content, 0),
+        number: FileNumber::new(le32(content, 0)),
         caller,
         length: le32(content, 11),
-        moment: le32(content, 15),
+        moment: Moment::new(le32(content, 15)),
     })
 }
 
@@ -36,7 +36,7 @@ pub(crate) fn read_grow(content: &[u8]) -> Option<PlacedCommand>
         return None;
     }
     Some(PlacedCommand::Grow {
-        number: le32(content, 0),
+        number: FileNumber::new(le32(content, 0)),
         block: le32(content, 4),
         used: le16(content, 8),
     })
@@ -51,8 +51,8 @@ pub(crate) fn read_seal(content: &[u8]) -> Option<PlacedCommand>
         return None;
     }
     Some(PlacedCommand::Seal {
-        number: le32(content, 0),
-        moment: le32(content, 4),
+        number: FileNumber::new(le32(content, 0)),
+        moment: Moment::new(le32(content, 4)),
         sum: le16(content, 8),
     })
 }
@@ -66,7 +66,7 @@ pub(crate) fn read_drop(content: &[u8]) -> Option<PlacedCommand>
         return None;
     }
     Some(PlacedCommand::Drop {
-        number: le32(content, 0),
+        number: FileNumber::new(le32(content, 0)),
     })
 }
 
@@ -79,6 +79,6 @@ pub(crate) fn read_next(content: &[u8]) -> Option<Recorded>
         return None;
     }
     Some(Recorded::Next {
-        number: le32(content, 0),
+        number: FileNumber::new(le32(content, 0)),
     })
 }

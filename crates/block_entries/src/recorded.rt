@@ -8,6 +8,7 @@ ghost use Rattle.file_journal.specs.Records.{record_of};
 
 use crate::PlacedCommand;
 use crate::reading::read_next;
+use px_base::FileNumber;
 
 /// The kind of a record that says which number is next.
 const NEXT: u8 = 5;
@@ -18,7 +19,7 @@ pub(crate) enum Recorded {
     /// Which number the next file gets, whatever numbers come before it.
     Next {
         /// The number.
-        number: u32,
+        number: FileNumber,
     },
     /// A command.
     Change(PlacedCommand),

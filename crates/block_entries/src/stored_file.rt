@@ -8,14 +8,14 @@ ghost use Rattle.block_entries.specs.Sealed.{sealed_file};
 
 use crate::{FileBlocks, SealedFile, Stamp};
 use file_entries::Info;
-use px_base::{Call, OctetBuffer};
+use px_base::{Call, FileNumber, Moment, OctetBuffer};
 use std::marker::Model;
 
 /// When a file was sealed, and what its seal says of its header.
 #[derive(Clone, Copy, Debug)]
 pub(crate) struct SealMark {
-    /// The moment, in seconds since 1 January 1970.
-    pub(crate) moment: u32,
+    /// The moment.
+    pub(crate) moment: Moment,
     /// The sum of the header with the stamp.
     pub(crate) sum: u16,
     /// The length of the header in octets.
@@ -25,10 +25,10 @@ pub(crate) struct SealMark {
 /// A file, without its blocks. Contracts see it as a `PlacedFile` without blocks.
 #[derive(Drop)]
 pub(crate) struct StoredFile {
-    number: u32,
+    number: FileNumber,
     caller: Call,
     length: u32,
-    begun: u32,
+    begun: Moment,
     /// How many octets are held.
     held: u32,
     /// The octets that came of an upload that is out and aren't held yet: at most those of one block.
@@ -61,7 +61,12 @@ impl Model for StoredFile {
 
 impl StoredFile {
     /// A file of which no octet is held, and no upload is out. Takes no memory.
-    pub(crate) fn new(number: u32, caller: Call, file_length: u32, moment: u32) -> StoredFile
+    pub(crate) fn new(
+        number: FileNumber,
+        caller: Call,
+        file_length: u32,
+        moment: Moment,
+    ) -> StoredFile
         ensures { result ≡ record { entry = new_placed number caller file_length moment; rest = None } }
     {
         StoredFile {
@@ -77,7 +82,7 @@ impl StoredFile {
     }
 
     /// The number of the file.
-    pub(crate) fn number(&self) -> u32
+    pub(crate) fn number(&self) -> FileNumber
         ensures { result ≡ self.now.entry.number }
     {
         self.number
@@ -198,7 +203,7 @@ impl StoredFile {
     }
 
     /// The file is kept with this seal.
-    pub(crate) fn seal(&mut self, moment: u32, sum: u16, header_len: u16)
+    pub(crate) fn seal(&mut self, moment: Moment, sum: u16, header_len: u16)
         ensures { self.new ≡ record self.old { entry = sealed (seal_with moment sum header_len) self.old.entry } }
     {
         self.mark = Some(SealMark {

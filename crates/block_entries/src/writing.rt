@@ -9,57 +9,62 @@ ghost use Rattle.px_base.specs.Numbers.{le16_octets, le32_octets};
 
 use byteorder::{ByteOrder, LittleEndian};
 use file_journal::RecordContent;
-use px_base::{Call, write_call};
+use px_base::{Call, FileNumber, Moment, write_call};
 
 /// The content of a Begin.
 pub(crate) fn put_begin(
     content: &mut RecordContent,
-    number: u32,
+    number: FileNumber,
     caller: &Call,
     length: u32,
-    moment: u32,
+    moment: Moment,
 ) -> u8
     ensures { record_of result content.new ≡ record_of_placed (begin number caller.now length moment) }
 {
     content.clear();
-    put_number(content, number);
+    put_number(content, number.get());
     content.put(&write_call(caller));
     put_number(content, length);
-    put_number(content, moment);
+    put_number(content, moment.get());
     1
 }
 
 /// The content of a Grow.
-pub(crate) fn put_grow(content: &mut RecordContent, number: u32, block: u32, used: u16) -> u8
+pub(crate) fn put_grow(content: &mut RecordContent, number: FileNumber, block: u32, used: u16) -> u8
     ensures { record_of result content.new ≡ record_of_placed (grow number block used) }
 {
-    put_numbers(content, number, block, used);
+    put_numbers(content, number.get(), block, used);
     2
 }
 
 /// The content of a Seal.
-pub(crate) fn put_seal(content: &mut RecordContent, number: u32, moment: u32, sum: u16) -> u8
+pub(crate) fn put_seal(
+    content: &mut RecordContent,
+    number: FileNumber,
+    moment: Moment,
+    sum: u16,
+) -> u8
     ensures { record_of result content.new ≡ record_of_placed (seal number moment sum) }
 {
-    put_numbers(content, number, moment, sum);
+    put_numbers(content, number.get(), moment.get(), sum);
     3
 }
 
 /// The content of a Drop.
-pub(crate) fn put_drop(content: &mut RecordContent, number: u32) -> u8
+pub(crate) fn put_drop(content: &mut RecordContent, number: FileNumber) -> u8
     ensures { record_of result content.new ≡ record_of_placed (drop_entry number) }
 {
     content.clear();
-    put_number(content, number);
+    put_number(content, number.get());
     4
 }
 
 /// The content of a Next.
-pub(crate) fn put_next(content: &mut RecordContent, number: u32) -> u8
+pub(crate) fn put_next(content: &mut RecordContent, number: FileNumber) -> u8
     ensures { record_of result content.new ≡ record_of_recorded (next_is number) }
 {
     content.clear();
-    put_number(content, number);
+    put_number(content, number.get());
     5
 }
 

@@ -1,12 +1,12 @@
 //! What a store tells of an entry.
 
-use px_base::Call;
+use px_base::{Call, FileNumber, Moment};
 
 /// What a store tells of an entry.
 #[derive(Clone, Copy, Debug)]
 pub struct Info {
     /// The number of the file, 1 to 4,294,967,294.
-    pub number: u32,
+    pub number: FileNumber,
     /// Whose file it is.
     pub caller: Call,
     /// The length of the file in octets.
@@ -15,6 +15,6 @@ pub struct Info {
     pub held: u32,
     /// Whether the file is complete.
     pub complete: bool,
-    /// The moment in which the file was begun, in seconds since 1 January 1970.
-    pub begun: u32,
+    /// The moment in which the file was begun.
+    pub begun: Moment,
 }

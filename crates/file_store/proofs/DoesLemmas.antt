@@ -1,5 +1,5 @@
 -- What a store's commands do to its disk: what file_journal proves of a state that is kept, at the store's form.
-use Rattle.std.proofs.Common.{◌≡◌, ℕ, ◌+◌, ◌≤◌, Bool, true, false, List, [], ◌++◌, length, Option, refl, sym, ap, subst, arith}
+use Rattle.std.proofs.Common.{◌≡◌, ℕ, ◌+◌, ◌≤◌, Bool, true, false, List, [], ◌++◌, length, Option, refl, sym, ap, subst}
 use Rattle.std.proofs.Math.Nat.{add-zero}
 use Rattle.file_journal.specs.AmongReads as among
 use Rattle.file_journal.specs.Kept as kept

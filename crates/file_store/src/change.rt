@@ -17,7 +17,7 @@ ghost use Rattle.file_store.specs.Changes.{MakesOf, MayMake, placed_by, turn_by}
 
 use block_entries::{CheckedHeader, Entries, PlacedCommand};
 use file_journal::{BlockPut, Change, RecordContent};
-use px_base::Call;
+use px_base::{Call, FileNumber, Moment};
 
 /// A change of the entries, which is one command.
 #[derive(Clone, Copy)]
@@ -26,24 +26,24 @@ pub(crate) enum EntriesChange {
     Begin {
         caller: Call,
         length: u32,
-        moment: u32,
+        moment: Moment,
     },
     /// The octets that wait of the upload of this number, so many, 1 to 512, become held, in the lowest block that no
     /// file has.
     Hold {
-        number: u32,
+        number: FileNumber,
         block: u32,
         count: usize,
     },
     /// The file of this number is whole, no upload of it is out, and a check found its header so.
     Seal {
-        number: u32,
-        moment: u32,
+        number: FileNumber,
+        moment: Moment,
         header: CheckedHeader,
     },
     /// The file of this number is given up.
     Drop {
-        number: u32,
+        number: FileNumber,
     },
 }
 

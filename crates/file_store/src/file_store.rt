@@ -51,7 +51,7 @@ use crate::{
 use block_entries::{CheckFault, CheckedHeader, Entries};
 use disk_model::{Disk, DiskFault};
 use file_journal::Kept;
-use px_base::Call;
+use px_base::{Call, FileNumber, Moment};
 use std::alloc::Global;
 use std::marker::Model;
 
@@ -85,7 +85,8 @@ impl FileStore {
     /// content stands for. It syncs before it reads. A disk of at most 16 octets is formatted with the limits' block
     /// number; one whose formatting was interrupted is formatted to its end. It may be cut at any of its writes and
     /// syncs, and is then done again. It reads each record once, and for each sealed file its octets once. Takes
-    /// memory: of the files what is told of them and in which blocks they stand, and none of their octets.
+    /// memory, all that the store ever does: 3 octets for each block, some 600 for each of the 1,024 entries that there
+    /// may be, and 65,535 for a header.
     ///
     /// `NotAStore` and `Damaged` leave the content as it was. After `Disk` and `OutOfMemory` the disk is to be
     /// recovered again.
@@ -133,7 +134,7 @@ impl FileStore {
         disk: &mut D,
         caller: Call,
         length: u32,
-        moment: u32,
+        moment: Moment,
     ) -> Result<OpenUpload, BeginRefusal>
         requires { StandsOn D.Disk self.old disk.old }
 
@@ -185,7 +186,7 @@ impl FileStore {
     /// no memory.
     pub fn resume(
         &mut self,
-        number: u32,
+        number: FileNumber,
         caller: Call,
         length: u32,
     ) -> Result<OpenUpload, ResumeRefusal>
@@ -283,7 +284,7 @@ impl FileStore {
         &mut self,
         disk: &mut D,
         up: OpenUpload,
-        moment: u32,
+        moment: Moment,
     ) -> Result<Receipt, SealRefusal>
         requires holds { Holds self.old up }
         requires stands_on { StandsOn D.Disk self.old disk.old }
@@ -391,14 +392,14 @@ impl FileStore {
     }
 
     /// Whether an upload of this number is out. Takes no memory.
-    pub fn is_out(&self, number: u32) -> bool
+    pub fn is_out(&self, number: FileNumber) -> bool
         ensures { IsTrue result ↔ IsOut self.now.files number }
     {
         self.kept.ledger.is_out(number)
     }
 
     /// What the store tells of the entry of this number, or `None` exactly where there is none. Takes no memory.
-    pub fn info(&self, number: u32) -> Option<Info>
+    pub fn info(&self, number: FileNumber) -> Option<Info>
         ensures info { result ≡ option_map info_of (entry_of (store_in self.now) number) }
         ensures rules { IsStore (store_in self.now) }
     {
@@ -408,7 +409,7 @@ impl FileStore {
     }
 
     /// The number that the next file gets. Takes no memory.
-    pub fn next_number(&self) -> u32
+    pub fn next_number(&self) -> FileNumber
         ensures { result ≡ (store_in self.now).next }
     {
         self.kept.ledger.next()
@@ -422,7 +423,7 @@ impl FileStore {
     }
 
     /// The least number above this one of a complete file, or `None` exactly where there is none. Takes no memory.
-    pub fn numbers(&self, after: u32) -> Option<u32>
+    pub fn numbers(&self, after: FileNumber) -> Option<FileNumber>
         ensures { IsNextComplete (store_in self.now) after result }
     {
         self.kept.ledger.next_complete(after)
@@ -435,7 +436,7 @@ impl FileStore {
     pub fn read_at<D: Disk>(
         &mut self,
         disk: &mut D,
-        number: u32,
+        number: FileNumber,
         offset: u32,
         room: &mut [u8],
     ) -> Result<(), DiskFault>
@@ -456,7 +457,11 @@ impl FileStore {
     /// comes where it is known what they hold. Both leave the store and the disk's content as they were.
     ///
     /// [`header_in`]: crate::header_in
-    pub fn header<D: Disk>(&mut self, disk: &mut D, number: u32) -> Result<&[u8], HeaderFault>
+    pub fn header<D: Disk>(
+        &mut self,
+        disk: &mut D,
+        number: FileNumber,
+    ) -> Result<&[u8], HeaderFault>
         requires { MayRead D.Disk self.old disk.old number }
         ensures header { IfOk result (λ octets. IsKnown D.Disk disk.old
             → IsHeaderOf (octets_at (entry_of (store_on D.Disk self.old disk.old) number)) octets.now) }
@@ -497,7 +502,7 @@ impl FileStore {
     fn hold_blocks<D: Disk>(
         &mut self,
         disk: &mut D,
-        number: u32,
+        number: FileNumber,
         bytes: &[u8],
         blocks: usize,
     ) -> Result<(), DiskFault>
@@ -522,7 +527,7 @@ impl FileStore {
     fn hold_block<'a, D: Disk>(
         &mut self,
         disk: &mut D,
-        number: u32,
+        number: FileNumber,
         bytes: &'a [u8],
     ) -> Result<&'a [u8], DiskFault>
         requires ready { IsReady D.Disk self.old disk.old }
@@ -542,7 +547,12 @@ impl FileStore {
     }
 
     /// The octets that wait of the upload of this number, so many, become held, by one Grow.
-    fn hold<D: Disk>(&mut self, disk: &mut D, number: u32, count: usize) -> Result<(), DiskFault>
+    fn hold<D: Disk>(
+        &mut self,
+        disk: &mut D,
+        number: FileNumber,
+        count: usize,
+    ) -> Result<(), DiskFault>
         requires ready { IsReady D.Disk self.old disk.old }
         requires fills { FillsBlock self.old number count }
         ensures does { DoesTo D.Disk (IsErr result) self.old self.new disk.old disk.new
@@ -565,8 +575,8 @@ impl FileStore {
     fn end_file<D: Disk>(
         &mut self,
         disk: &mut D,
-        number: u32,
-        moment: u32,
+        number: FileNumber,
+        moment: Moment,
     ) -> Result<End, DiskFault>
         requires ready { IsReady D.Disk self.old disk.old }
         requires whole { IsWholeWaiting self.old number }
@@ -588,7 +598,7 @@ impl FileStore {
 
     /// The octets that wait of the upload of this number, of whose file all came, become held, by one Grow where there
     /// are any.
-    fn hold_rest<D: Disk>(&mut self, disk: &mut D, number: u32) -> Result<(), DiskFault>
+    fn hold_rest<D: Disk>(&mut self, disk: &mut D, number: FileNumber) -> Result<(), DiskFault>
         requires ready { IsReady D.Disk self.old disk.old }
         requires whole { IsWholeWaiting self.old number }
         ensures does { DoesTo D.Disk (IsErr result) self.old self.new disk.old disk.new
@@ -606,8 +616,8 @@ impl FileStore {
     fn seal_entry<D: Disk>(
         &mut self,
         disk: &mut D,
-        number: u32,
-        moment: u32,
+        number: FileNumber,
+        moment: Moment,
         header: CheckedHeader,
     ) -> Result<(), DiskFault>
         requires ready { IsReady D.Disk self.old disk.old }
@@ -630,7 +640,7 @@ impl FileStore {
     }
 
     /// Drops the entry of this number, which is under way.
-    fn drop_entry<D: Disk>(&mut self, disk: &mut D, number: u32) -> Result<(), DiskFault>
+    fn drop_entry<D: Disk>(&mut self, disk: &mut D, number: FileNumber) -> Result<(), DiskFault>
         requires ready { IsReady D.Disk self.old disk.old }
         requires partial { Passes (placed_in self.old) number is_partial }
         ensures does { Does D.Disk (IsErr result) self.old self.new disk.old disk.new (drop_entry number ∷ []) }

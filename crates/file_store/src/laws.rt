@@ -23,7 +23,7 @@ pub fn state_law(store: &FileStore)
     ensures rules { IsStore (store_in store.now) }
 {
     store.read_law();
-    let _info = store.info(0);
+    let _info = store.info(store.next_number());
 }
 
 /// What a store is on a disk where it is known what its files hold: what memory tells of it, with the octets of its

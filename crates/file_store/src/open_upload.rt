@@ -4,14 +4,14 @@ ghost use Rattle.std.specs.Prelude.{◌≡◌, ◌+◌, ◌≤◌};
 ghost use Rattle.file_entries.specs.Limits.{longest_file};
 
 use crate::LONGEST_FILE;
-use px_base::Call;
+use px_base::{Call, FileNumber};
 use std::marker::Model;
 
 /// An upload under way: the way to its entry in the store. It must be spent, by `seal` or `park`. It knows only what
 /// stays whatever becomes of other uploads: in every image of the disk its entry is under way, and holds at least the
 /// octets that it says. Contracts see it as an `Upload`.
 pub struct OpenUpload {
-    number: u32,
+    number: FileNumber,
     caller: Call,
     length: u32,
     held: u32,
@@ -31,7 +31,7 @@ impl OpenUpload {
     ghost use Rattle.file_store.specs.Upload.{held_whole, upload_from};
 
     /// The upload of this entry, of which so many octets are held.
-    pub(crate) fn new(number: u32, caller: Call, file_length: u32, held: u32) -> OpenUpload
+    pub(crate) fn new(number: FileNumber, caller: Call, file_length: u32, held: u32) -> OpenUpload
         requires held { held ≤ file_length }
         requires file { file_length ≤ longest_file }
         ensures { result ≡ upload_from number caller file_length held }
@@ -45,7 +45,7 @@ impl OpenUpload {
     }
 
     /// The number of the file. Takes no memory.
-    pub fn number(&self) -> u32
+    pub fn number(&self) -> FileNumber
         ensures { result ≡ self.now.number }
     {
         self.number
@@ -111,7 +111,7 @@ impl OpenUpload {
     }
 
     /// Gives the upload up, and gives its number.
-    pub(crate) fn end(self) -> u32
+    pub(crate) fn end(self) -> FileNumber
         ensures { result ≡ self.number }
     {
         let OpenUpload {

@@ -17,14 +17,15 @@ use crate::header::is_header;
 use block_entries::{CheckFault, CheckedHeader, Entries};
 use disk_model::{Disk, DiskFault};
 use file_journal::Kept;
+use px_base::{FileNumber, Moment};
 
 /// Checks a file of which all octets are held by its header: the sum that the header has with the stamp of this moment,
 /// and its length. It reads each octet once. Takes no memory.
 pub(crate) fn check_file<D: Disk>(
     kept: &Kept<Entries>,
     disk: &mut D,
-    number: u32,
-    moment: u32,
+    number: FileNumber,
+    moment: Moment,
 ) -> Result<CheckedHeader, CheckFault>
     requires ready { IsReady D.Disk (state_from kept.now.ledger.files kept.now.journal) disk.old }
     requires there { IsSome (placed_of (store_of kept.now.ledger.files) number) }
@@ -45,7 +46,7 @@ pub(crate) fn check_file<D: Disk>(
 pub(crate) fn read_file<D: Disk>(
     kept: &Kept<Entries>,
     disk: &mut D,
-    number: u32,
+    number: FileNumber,
     offset: u32,
     room: &mut [u8],
 ) -> Result<(), DiskFault>
@@ -65,7 +66,7 @@ pub(crate) fn read_file<D: Disk>(
 pub(crate) fn read_header<D: Disk>(
     kept: &Kept<Entries>,
     disk: &mut D,
-    number: u32,
+    number: FileNumber,
     header: &mut Vec<u8>,
 ) -> Result<(), HeaderFault>
     requires may { MayRead D.Disk (state_from kept.now.ledger.files kept.now.journal) disk.old number }
@@ -90,7 +91,7 @@ pub(crate) fn read_header<D: Disk>(
 }
 
 /// Whether a header of this length is no longer than the file of this number.
-fn fits_file(kept: &Kept<Entries>, number: u32, len: usize) -> bool
+fn fits_file(kept: &Kept<Entries>, number: FileNumber, len: usize) -> bool
     ensures { IsTrue result ↔ IsSomeAnd (placed_of (store_of kept.now.ledger.files) number) (λ f. len ≤ f.held) }
 {
     match kept.ledger.info(number) {

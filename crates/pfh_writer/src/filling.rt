@@ -45,9 +45,9 @@ impl ServerItems {
         ensures change { (result + sum content.old) % 65536 ≡ sum content.new % 65536 }
     {
         match (id, content.len()) {
-            (FILE_NUMBER, 4) => replace(content, &octets32(self.number)),
+            (FILE_NUMBER, 4) => replace(content, &octets32(self.number.get())),
             (AX25_UPLOADER, 6) => replace(content, &self.by.chars),
-            (UPLOAD_TIME, 4) => replace(content, &octets32(self.moment)),
+            (UPLOAD_TIME, 4) => replace(content, &octets32(self.moment.get())),
             _ => 0,
         }
     }

@@ -5,11 +5,11 @@ ghost use Rattle.pfh_items.specs.Stamp.{stamped};
 ghost use Rattle.pfh_writer.specs.Given.{IsFaultlessFile, IsStampedSum};
 
 use crate::Stamper;
-use px_base::Call;
+use px_base::{Call, FileNumber, Moment};
 
 /// Stamps a file that comes in these pieces, wherever they are cut: the new pieces joined are what [`stamp`](crate::stamp())
 /// makes of all pieces joined. `sum` is the sum of the stamped header. Takes no memory.
-pub fn stamp_pieces(pieces: &mut [Vec<u8>], number: u32, by: Call, moment: u32, sum: u16)
+pub fn stamp_pieces(pieces: &mut [Vec<u8>], number: FileNumber, by: Call, moment: Moment, sum: u16)
     requires faultless { IsFaultlessFile (flat_map (λ piece. piece.items) pieces.old) }
     requires sum { IsStampedSum (record { number = number; by = by; moment = moment })
         (flat_map (λ piece. piece.items) pieces.old) sum }

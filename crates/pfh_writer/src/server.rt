@@ -9,20 +9,19 @@ ghost use Rattle.pfh_writer.specs.Sums.{data_sum, filled_item};
 use crate::text::{octets32, push_octets};
 use arrayvec::ArrayVec;
 use pfh_items::{AX25_UPLOADER, FILE_NUMBER, Item, Items, UPLOAD_TIME, sum16};
-use px_base::Call;
+use px_base::{Call, FileNumber, Moment};
 
 /// What a server fills in: the file's number, the call of the station that uploaded it, and the moment of that.
 #[derive(Clone, Copy, Debug, PartialEq, Eq)]
 pub(crate) struct ServerItems {
-    pub(crate) number: u32,
+    pub(crate) number: FileNumber,
     pub(crate) by: Call,
-    /// Seconds since 1 January 1970.
-    pub(crate) moment: u32,
+    pub(crate) moment: Moment,
 }
 
 impl ServerItems {
     /// Those of this number, call and moment.
-    pub(crate) fn new(number: u32, by: Call, moment: u32) -> ServerItems
+    pub(crate) fn new(number: FileNumber, by: Call, moment: Moment) -> ServerItems
         ensures items { stamp_of result ≡ record { number = number; by = by; moment = moment } }
         ensures call { IsCall by }
     {
@@ -34,9 +33,9 @@ impl ServerItems {
         ensures { option_map (λ octets. octets.items) result ≡ server_data (stamp_of self.now) id len }
     {
         match (id, len) {
-            (FILE_NUMBER, 4) => Some(few(&octets32(self.number))),
+            (FILE_NUMBER, 4) => Some(few(&octets32(self.number.get()))),
             (AX25_UPLOADER, 6) => Some(few(&self.by.chars)),
-            (UPLOAD_TIME, 4) => Some(few(&octets32(self.moment))),
+            (UPLOAD_TIME, 4) => Some(few(&octets32(self.moment.get()))),
             _ => None,
         }
     }

@@ -8,7 +8,7 @@ use crate::server::{ServerItems, few};
 use crate::text::octets16;
 use arrayvec::ArrayVec;
 use pfh_items::HEADER_CHECKSUM;
-use px_base::Call;
+use px_base::{Call, FileNumber, Moment};
 use std::marker::Model;
 
 /// How far a stamper has come.
@@ -64,9 +64,9 @@ impl Model for Stamper {
 
 impl Stamper {
     /// A stamper that was fed nothing: for the file's number, the call of the station that uploaded it, and the moment of
-    /// that in seconds since 1 January 1970. `sum` is the sum of the stamped header, as
+    /// that. `sum` is the sum of the stamped header, as
     /// [`stamped_sum`](crate::stamped_sum) gives it. Takes no memory.
-    pub fn new(number: u32, by: Call, moment: u32, sum: u16) -> Stamper
+    pub fn new(number: FileNumber, by: Call, moment: Moment, sum: u16) -> Stamper
         ensures stamp { result.stamp ≡ record { number = number; by = by; moment = moment } }
         ensures sum { result.sum ≡ sum }
         ensures fed { HasStamped result [] [] }

@@ -10,13 +10,13 @@ ghost use Rattle.pfh_writer.specs.Given.{IsFaultlessFile, IsHeaderOfSums, stampe
 use crate::server::ServerItems;
 use crate::text::octets16;
 use pfh_items::{HEADER_CHECKSUM, Items, Sums};
-use px_base::{Call, le16};
+use px_base::{Call, FileNumber, Moment, le16};
 
 /// Stamps a file that keeps all rules of headers, in its place: the data of file_number becomes the file's number, that of
 /// each ax25_uploader of six octets the characters of the call, that of each upload_time of four octets the moment, and
 /// header_checksum the new sum; all else stays as it is. It walks over the header once, and never reads the body. Takes no
 /// memory.
-pub fn stamp(file: &mut [u8], number: u32, by: Call, moment: u32)
+pub fn stamp(file: &mut [u8], number: FileNumber, by: Call, moment: Moment)
     requires { IsFaultlessFile file.old }
     ensures relation { Stamped (record { number = number; by = by; moment = moment }) file.old file.new }
     ensures computed { file.new ≡ stamped (record { number = number; by = by; moment = moment }) file.old }
@@ -52,7 +52,7 @@ fn add_to_sum(file: &mut [u8], at: usize, change: u16)
 
 /// The sum that the header of a file has once [`stamp`] has stamped it so: `old` is the header before, and `sums` are the
 /// sums of the file, whose body isn't needed. It reads the header once. Takes no memory.
-pub fn stamped_sum(sums: &Sums, old: &[u8], number: u32, by: Call, moment: u32) -> u16
+pub fn stamped_sum(sums: &Sums, old: &[u8], number: FileNumber, by: Call, moment: Moment) -> u16
     requires { IsHeaderOfSums old.now sums.now }
     ensures { (items : List ItemValue) → HeaderText items old.now
         → result ≡ sum_of_stamped (record { number = number; by = by; moment = moment }) items }

@@ -1,5 +1,5 @@
-use Rattle.std.proofs.Common.{◌≤◌, ◌∙◌, ℕ, ap, sym, subst}
-use Rattle.block_entries.proofs.Names.{EntriesState, Table, most_entries}
+use Rattle.std.proofs.Common.{◌∙◌, ap}
+use Rattle.block_entries.proofs.Names.{EntriesState, Table}
 use Rattle.block_entries.proofs.ChangeLemmas.{drop_becomes, drop_kept, has_place, never_found}
 use Rattle.block_entries.proofs.entries.Entries.drop_entry.Goals as goal
 
@@ -13,7 +13,7 @@ invariant_of-self c =
     let view = ap (λ (s : EntriesState). s.files) c.self.view_is in (
       drop_kept c.self.inside.table.runs c.self.inside.files.items c.self.inside.next c.self.inside.table.limit c.self.invariant.0 _ view c.args.number _ c.place_of.result c.unwrap-place.ensures c.place_of.ensures.some c.remove.result c.remove.ensures.value
           c.requires c.remove-2.new.self.runs c.remove-2.new.self.limit c.remove.new.self.items (ap (λ (t : Table). t.runs) c.remove-2.ensures) (ap (λ (t : Table). t.limit) c.remove-2.ensures) c.remove.ensures.items,
-      subst (λ (n : ℕ). most_entries ≤ n) (sym c.remove.ensures.capacity) c.self.invariant.1,
+      c.remove.ensures.capacity ∙ c.self.invariant.1,
       ap (λ (t : Table). t.most) c.remove-2.ensures ∙ c.self.invariant.2,
     )
 

@@ -13,7 +13,8 @@ found c =
     let by_number = facts.position (λ (f : PlacedFile). f.entry.number) (answers_always _ _ _ (λ f a r g called. search rules)) in
     let at = searched 1 c.self.inside.next items (rise_in_runs 1 c.self.inside.next c.self.inside.table.runs items kept.count kept.rules.numbers) c.args.number c.binary_search_by_key.result
     (subst (λ (fs : List PlacedFile). IsSearchInRange c.binary_search_by_key.result (length fs)) c.deref.ensures.value facts.bound)
-    (subst (λ (fs : List PlacedFile). IsBinarySearchResult (λ f. nat_cmp f.entry.number c.args.number) fs c.binary_search_by_key.result) c.deref.ensures.value by_number) in
+    (subst (λ (fs : List PlacedFile). IsBinarySearchResult (λ f. nat_cmp f.entry.number c.args.number) fs c.binary_search_by_key.result) c.deref.ensures.value
+    (subst (λ (n : ℕ). IsBinarySearchResult (λ (f : PlacedFile). nat_cmp f.entry.number n) c.deref.result.now c.binary_search_by_key.result) c.get.ensures by_number)) in
     let whole = found_in_runs c.self.inside.table.runs items c.args.number (result_ok c.binary_search_by_key.result) kept.count at in
     let P : List PlacedFile → Option ℕ → Type 0 = λ fs o. IfSome o (IsPlace fs c.args.number) × IfNone o (file_of fs c.args.number ≡ None) in
     subst (λ (o : Option ℕ). P c.args.self.now.files.files o) (sym c.ok.ensures.value)

@@ -81,9 +81,9 @@ returns-in_ok-drop_entry-in-Err-Header g c =
     let code = c.in-Err-Header.code in
     let found = subst (λ (s : StoreState). HasFault (D.content c.hold_rest.new.disk) (placed_of (placed_in s) number) code) c.self.view_is (c.in-Err-Header.ensures.fault code (ap Err c.in-Err-Header.field-0-is)) in
     record {
-      ends = ends-dropped D c.args.self.now c.args.disk.now number moment c.requires.whole c.requires.ready g.met.D.Disk.lasts_on c.hold_rest.new.self c.hold_rest.new.disk c.check_file.new.disk
+      ends = rw c.in-Err-Header.field-0-is (ends-dropped D c.args.self.now c.args.disk.now number moment c.requires.whole c.requires.ready g.met.D.Disk.lasts_on c.hold_rest.new.self c.hold_rest.new.disk c.check_file.new.disk
           c.in_ok-hold_rest.ensures.does _ (λ is. let same = c.in-Err-Header.field-0-is in cc) c.in-Err-Header.ensures.reads c.drop_entry.new.self c.drop_entry.new.disk c.drop_entry.ensures.leaves code found
-          c.in_ok-drop_entry-in-Err-Header.ensures.does c.in_ok-drop_entry-in-Err-Header.ensures.gone c.in_ok-drop_entry-in-Err-Header.ensures.rest (c.in-Err-Header.ensures.code code (ap Err c.in-Err-Header.field-0-is));
+          c.in_ok-drop_entry-in-Err-Header.ensures.does c.in_ok-drop_entry-in-Err-Header.ensures.gone c.in_ok-drop_entry-in-Err-Header.ensures.rest (c.in-Err-Header.ensures.code code (ap Err c.in-Err-Header.field-0-is)));
     }
 
 pub returns-in-Err-Disk : goal.returns-in-Err-Disk
