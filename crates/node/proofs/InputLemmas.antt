@@ -1,7 +1,7 @@
 -- Octets and ticks as what is handed over.
 use Rattle.std.proofs.Common.{◌≡◌, ℕ, ◌<◌, List, [], ◌∷◌, ◌++◌, refl, ap, sym, ◌∙◌, append_assoc, append-nil, drop, take, length, Bool, true, false, Some, unwrap_or, arith}
 use Rattle.std.specs.Prelude.{◌==◌, if◌then◌else◌}
-use Rattle.node.proofs.Names.{ne_eqb, map-append, take-append-drop, All-from_recursion, recursion_from_All, AllByRecursion, IsOctets, Turn, Input, IsInput, octet, octets_at, inputs_of, inputs_since, octets_in, tick, tick_after, turn_inputs}
+use Rattle.node.proofs.Names.{map-append, take-append-drop, All-from_recursion, recursion_from_All, AllByRecursion, IsOctets, Turn, Input, IsInput, octet, octets_at, inputs_of, inputs_since, octets_in, tick, tick_after, turn_inputs}
 use Rattle.node.proofs.Invariants.{last_in}
 
 pub octets_at-append : (moment : ℕ) (xs ys : List ℕ) → octets_at moment (xs ++ ys) ≡ octets_at moment xs ++ octets_at moment ys
@@ -34,8 +34,8 @@ pub are-octets : (inputs : List Input) → AllByRecursion IsInput inputs → IsO
 are-octets inputs h = All-from_recursion (λ o. o < 256) (octets_in inputs) (octets-below inputs h)
 
 -- a tick, where the moment is another one
-pub tick-there : (last moment : ℕ) → ¬ (moment ≡ last) → tick moment ∷ [] ≡ tick_after last moment
-tick-there last moment other = sym (ap (λ b. if b then [] else tick moment ∷ []) (ne_eqb moment last other))
+pub tick-there : (last moment : ℕ) → (moment == last) ≡ false → tick moment ∷ [] ≡ tick_after last moment
+tick-there last moment other = sym (ap (λ b. if b then [] else tick moment ∷ []) other)
 
 -- what was handed over before, what was taken of the rest, and what is behind it
 pub octets-parts : (moment : ℕ) (all done piece : List ℕ) (taken : ℕ) → all ≡ done ++ piece

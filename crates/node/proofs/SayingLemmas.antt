@@ -3,7 +3,7 @@ use Rattle.std.proofs.Common.{◌≡◌, ℕ, ◌≤◌, List, [], ◌++◌, Boo
 use Rattle.std.proofs.lemmas.Result.{err_from_is_err_and}
 use Rattle.disk_model.specs.declared.halt.Halt.TheVariants as halt
 use Rattle.node.specs.declared.stop.NodeStop.TheVariants as stop
-use Rattle.node.proofs.Names.{IsErrAnd, ⊤, AllByRecursion, Gains, GainsPrefix, HasCause, Ghosts as AirGhosts, AirDown, Gains-front, Gains-none, Gains-trans, AtDisk, Course, GaveAll, GivesNext, IsLawful, stop_at_put, stop_of, Input, IsInput, CountsBy, IsByParty, IsUnsaid, SaysAll, Takes, Halt, NodeStop}
+use Rattle.node.proofs.Names.{IsErrAnd, ⊤, AllByRecursion, Gains, GainsPrefix, HasCause, Ghosts as AirGhosts, AirDown, Gains-front, Gains-none, Gains-trans, AtDisk, Course, GaveAll, GivesNext, IsLawful, OwesStop, stop_at_put, stop_of, Input, IsInput, CountsBy, IsByParty, IsUnsaid, SaysAll, Takes, Halt, NodeStop}
 use Rattle.node.proofs.Invariants.{IsSaying}
 
 -- what holds of the error that a `?` hands on holds of the result
@@ -108,8 +108,9 @@ module _ {P D A : Type 0} (course : Course P D Input) (air : AirGhosts A) where
       counts = (says.reads, says.cause.rose);
     }
 
-    pub taken-halted : (why : Halt) (result : Result ⊤ AirDown) → course.owes old inputs (Some why) [] mid → SaysAll course air before now mid new result → Takes course air before now old new inputs (Err (stop_of why))
-    taken-halted why (Ok done) owes says = record {
+    -- all that it halts behind, or a front of it
+    taken-all : (why : Halt) (result : Result ⊤ AirDown) → course.owes old inputs (Some why) [] mid → SaysAll course air before now mid new result → Takes course air before now old new inputs (Err (stop_of why))
+    taken-all why (Ok done) owes says = record {
       text = says.text;
       text_said = says.text_said;
       unsaid = false;
@@ -119,7 +120,7 @@ module _ {P D A : Type 0} (course : Course P D Input) (air : AirGhosts A) where
       heard = says.heard;
       counts = counts-halt why _ _ _ _ says.reads says.cause.no_less;
     }
-    taken-halted why (Err down) owes says = record {
+    taken-all why (Err down) owes says = record {
       text = says.text;
       text_said = says.text_said;
       unsaid = true;
@@ -129,6 +130,9 @@ module _ {P D A : Type 0} (course : Course P D Input) (air : AirGhosts A) where
       heard = says.heard;
       counts = counts-halt why _ _ _ _ says.reads says.cause.no_less;
     }
+
+    pub taken-halted : (stop : NodeStop) (result : Result ⊤ AirDown) → OwesStop course old inputs stop mid → SaysAll course air before now mid new result → Takes course air before now old new inputs (Err stop)
+    taken-halted stop result h says = subst (λ s. Takes course air before now old new inputs (Err s)) (sym h.1) (taken-all h.0 result h.2 says)
 
   module _ (lawful : IsLawful course IsInput) where
     pub takes-none : (now : A) (self : AtDisk P D) → course.is_fit self → Takes course air now now self self [] (Ok tt)

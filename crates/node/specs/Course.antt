@@ -1,5 +1,5 @@
 -- The course of what a node drives: over which events it comes from where to where, and what it gives.
-use Rattle.std.specs.Prelude.{ℕ, List, [], ◌++◌, take, Bool, true, false, Option, None, Some, Result, Ok, Err, ⊤}
+use Rattle.std.specs.Prelude.{◌≡◌, ℕ, List, [], ◌++◌, take, Bool, true, false, Option, None, Some, Result, Ok, Err, ⊤}
 use Rattle.std.specs.List.{AllByRecursion}
 use Rattle.px_base.specs.Octets.{IsFront}
 pub use Rattle.disk_model.specs.AtDisk.{AtDisk, at}
@@ -18,11 +18,6 @@ abbrev pub stop_at_put : Option Halt → NodeStop
 stop_at_put None = stop.AirWrite
 stop_at_put (Some why) = stop_of why
 
--- the halt in an answer, if it is one
-abbrev pub halt_in : Result ⊤ Halt → Option Halt
-halt_in (Ok done) = None
-halt_in (Err why) = Some why
-
 -- The course of something at its disk, over events.
 pub record Course (S D E : Type 0) : Type 1 where
   -- It stands on its disk, and has nothing to give: it may take its next event.
@@ -38,6 +33,16 @@ pub record Course (S D E : Type 0) : Type 1 where
   pub most : S → ℕ
   -- it takes no further turn
   pub is_over : S → Bool
+
+-- It took these events, gave nothing yet, and halts, which stops its node so.
+abbrev pub OwesStop : {S D E : Type 0} → Course S D E → AtDisk S D → List E → NodeStop → AtDisk S D → Type 0
+OwesStop course start events stop now =
+    (why : Halt) × (stop ≡ stop_of why) × course.owes start events (Some why) [] now
+
+-- It took these events, gave nothing yet, and answers so: it goes on, or it halts.
+abbrev pub OwesBy : {S D E : Type 0} → Course S D E → AtDisk S D → List E → Result ⊤ NodeStop → AtDisk S D → Type 0
+OwesBy course start events (Ok done) now = course.owes start events None [] now
+OwesBy course start events (Err stop) now = OwesStop course start events stop now
 
 -- It took some events, and gave some of what they bring, or all.
 abbrev pub OwesSome : {S D E : Type 0} → Course S D E → AtDisk S D → Type 0
@@ -66,11 +71,11 @@ GaveAll {S} {D} {E} course old new =
     (start : AtDisk S D) (events : List E) (why : Option Halt) (said : List ℕ)
     → course.owes start events why said old → Settles course start events why said new
 
--- It halts at what a front of these octets finishes.
+-- It halts at what a front of these octets finishes, which stops its node so.
 abbrev pub HaltsWithin :
-    {S D E : Type 0} → Course S D E → AtDisk S D → (List ℕ → List E) → List ℕ → Halt → AtDisk S D → Type 0
-HaltsWithin course start events octets why now =
-    (taken : ℕ) × course.owes start (events (take taken octets)) (Some why) [] now
+    {S D E : Type 0} → Course S D E → AtDisk S D → (List ℕ → List E) → List ℕ → NodeStop → AtDisk S D → Type 0
+HaltsWithin course start events octets stop now =
+    (taken : ℕ) × OwesStop course start (events (take taken octets)) stop now
 
 -- What holds of each course, whose events are these ones.
 pub record IsLawful {S D E : Type 0} (course : Course S D E) (IsEvent : E → Type 0) : Type 0 where

@@ -13,7 +13,6 @@ mod stop;
 mod terms;
 mod turns;
 
-pub use disk_model::Halt;
 pub use driving::drive;
 pub use finished::Finished;
 pub use party::{MOST_SAID, Party};

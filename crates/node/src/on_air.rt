@@ -5,11 +5,11 @@ ghost use Rattle.node.specs.OnAir.{on_air};
 ghost use Rattle.node.specs.Reading.{HasHeard};
 
 use crate::laws::some_frames_law;
-use crate::{Halt, Party, Station, StationReader};
+use crate::{NodeStop, Party, Station, StationReader};
 use arrayvec::ArrayVec;
 use disk_model::Disk;
 use kiss::write_frame;
-use px_base::Call;
+use px_base::{Call, Moment};
 
 /// A station on the air: it hears the frames for it in the KISS text that is heard, passes over every other part, and
 /// the frames that it gives are said as KISS text.
@@ -37,7 +37,7 @@ impl<S> OnAir<S> {
 impl<D: Disk, S: Station<D>> Party<D> for OnAir<S> {
     ghost course = { on_air S.me S.course };
 
-    fn hear(&mut self, disk: &mut D, piece: &[u8], moment: u32) -> Result<usize, Halt> {
+    fn hear(&mut self, disk: &mut D, piece: &[u8], moment: Moment) -> Result<usize, NodeStop> {
         S::is_lawful();
         let mut count = 0;
         while count < piece.len() {
@@ -54,7 +54,7 @@ impl<D: Disk, S: Station<D>> Party<D> for OnAir<S> {
                 Some(frame) => {
                     return match self.station.hear(disk, &frame, moment) {
                         Ok(()) => Ok(count),
-                        Err(why) => Err(why),
+                        Err(stop) => Err(stop),
                     };
                 }
                 None => {}
@@ -63,7 +63,7 @@ impl<D: Disk, S: Station<D>> Party<D> for OnAir<S> {
         Ok(piece.len())
     }
 
-    fn tick(&mut self, disk: &mut D, moment: u32) {
+    fn tick(&mut self, disk: &mut D, moment: Moment) {
         self.station.tick(disk, moment);
     }
 

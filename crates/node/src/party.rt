@@ -5,9 +5,10 @@ ghost use Rattle.disk_model.specs.AtDisk.{at};
 ghost use Rattle.node.specs.Course.{Course, GaveAll, GivesNext, HaltsWithin, IsLawful, OwesSome};
 ghost use Rattle.node.specs.Inputs.{Input, IsInput, octets_at, tick};
 
-use crate::Halt;
+use crate::NodeStop;
 use arrayvec::ArrayVec;
 use disk_model::Disk;
+use px_base::Moment;
 
 /// The most octets that a party gives at once.
 pub const MOST_SAID: usize = 2049;
@@ -21,19 +22,20 @@ pub trait Party<D: Disk> {
     /// Takes octets that are heard at this moment, from the front of the piece, up to the end of what they finish: how
     /// many, and at least one.
     ///
-    /// An error: it halts at what they finish, and takes nothing more.
-    fn hear(&mut self, disk: &mut D, piece: &[u8], moment: u32) -> Result<usize, Halt>
+    /// An error: it halts at what they finish, and takes nothing more. The stop is the one of that halt: `Disk` or
+    /// `OutOfMemory`.
+    fn hear(&mut self, disk: &mut D, piece: &[u8], moment: Moment) -> Result<usize, NodeStop>
         requires some { 0 < length piece.now }
         requires fit { course.is_fit (at self.old disk.old) }
         ensures some { IfOk result (λ taken. 0 < taken) }
         ensures within { IfOk result (λ taken. taken ≤ length piece.now) }
         ensures takes { IfOk result (λ taken. course.owes (at self.old disk.old)
             (octets_at moment (take taken piece.now)) None [] (at self.new disk.new)) }
-        ensures halts { IfErr result (λ why. HaltsWithin course (at self.old disk.old) (octets_at moment) piece.now why
-            (at self.new disk.new)) };
+        ensures halts { IfErr result (λ stop. HaltsWithin course (at self.old disk.old) (octets_at moment) piece.now
+            stop (at self.new disk.new)) };
 
     /// Takes the clock's going on to this moment.
-    fn tick(&mut self, disk: &mut D, moment: u32)
+    fn tick(&mut self, disk: &mut D, moment: Moment)
         requires { course.is_fit (at self.old disk.old) }
         ensures { course.owes (at self.old disk.old) (tick moment ∷ []) None [] (at self.new disk.new) };
 

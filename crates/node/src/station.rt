@@ -6,13 +6,14 @@ ghost use Rattle.ax25_frames.specs.Kinds.{FitsControl};
 ghost use Rattle.ax25_frames.specs.Values.{value_of};
 ghost use Rattle.kiss.specs.KissText.{kiss_text};
 ghost use Rattle.disk_model.specs.AtDisk.{at};
-ghost use Rattle.node.specs.Course.{Course, GaveAll, GivesNext, IsLawful, halt_in};
+ghost use Rattle.node.specs.Course.{Course, GaveAll, GivesNext, IsLawful, OwesBy};
 ghost use Rattle.node.specs.Events.{IsFor, NodeEvent, hears, ticks};
 
-use crate::Halt;
+use crate::NodeStop;
 use arrayvec::ArrayVec;
 use ax25_frames::Frame;
 use disk_model::Disk;
+use px_base::Moment;
 
 /// A station of AX.25 over a disk of this kind: frames for it and ticks go in, and frames come out. Its course is
 /// what its owner says of it; the text that it gives is the KISS text of its frames.
@@ -25,17 +26,18 @@ pub trait Station<D: Disk> {
 
     /// Hears a frame for it at this moment.
     ///
-    /// An error: it halts at this frame, and takes nothing more.
-    fn hear(&mut self, disk: &mut D, frame: &Frame<'_>, moment: u32) -> Result<(), Halt>
+    /// An error: it halts at this frame, and takes nothing more. The stop is the one of that halt: `Disk` or
+    /// `OutOfMemory`.
+    fn hear(&mut self, disk: &mut D, frame: &Frame<'_>, moment: Moment) -> Result<(), NodeStop>
         requires fit { course.is_fit (at self.old disk.old) }
         requires frame { IsFor (me self.old) (value_of frame.now) }
         requires numbers { FitsControl (value_of frame.now).kind.control }
-        ensures takes { course.owes (at self.old disk.old) (hears (value_of frame.now) moment ∷ []) (halt_in result) []
+        ensures takes { OwesBy course (at self.old disk.old) (hears (value_of frame.now) moment ∷ []) result
             (at self.new disk.new) }
         ensures me { me self.new ≡ me self.old };
 
     /// Takes the clock's going on to this moment.
-    fn tick(&mut self, disk: &mut D, moment: u32)
+    fn tick(&mut self, disk: &mut D, moment: Moment)
         requires { course.is_fit (at self.old disk.old) }
         ensures takes { course.owes (at self.old disk.old) (ticks moment ∷ []) None [] (at self.new disk.new) }
         ensures me { me self.new ≡ me self.old };

@@ -4,7 +4,7 @@ ghost use Rattle.std.specs.Prelude.{◌≡◌, None};
 ghost use Rattle.node.specs.Course.{stop_at_put, stop_of};
 ghost use Rattle.node.specs.Stops.{stop_of_fault};
 
-use crate::Halt;
+use disk_model::{DiskFault, Halt};
 use file_journal::StoreFault;
 use px_base::AirDown;
 use thiserror::Error;
@@ -50,6 +50,17 @@ impl From<Halt> for NodeStop {
             Halt::Disk => NodeStop::Disk,
             Halt::OutOfMemory => NodeStop::OutOfMemory,
         }
+    }
+}
+
+/// The disk failed at a write or a sync.
+impl From<DiskFault> for NodeStop {
+    ghost use Rattle.node.specs.declared.stop.NodeStop.TheVariants as stop;
+
+    ghost from_gives = { λ _ result. result ≡ stop.Disk };
+
+    fn from(_fault: DiskFault) -> NodeStop {
+        NodeStop::Disk
     }
 }
 

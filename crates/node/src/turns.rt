@@ -10,7 +10,7 @@ ghost use Rattle.node.specs.Turns.{AreHandedOver, IsMomentOf, SaysAll, Takes, Ta
 use crate::{Finished, MOST_SAID, NodeStop, Party, TurnTerms};
 use arrayvec::ArrayVec;
 use disk_model::Disk;
-use px_base::{Air, AirDown, Clock, Polled, ROOM};
+use px_base::{Air, AirDown, Clock, Moment, Polled, ROOM};
 
 /// What a party gives is written here.
 type Text = ArrayVec<u8, MOST_SAID>;
@@ -83,7 +83,7 @@ pub fn take_turns<D: Disk, P: Party<D>, A: Air, C: Clock>(
 }
 
 /// The moment of this turn, counted from 0: the first one's may have been taken before.
-fn moment_of_turn<C: Clock>(turn: u64, terms: &TurnTerms, clock: &mut C) -> u32
+fn moment_of_turn<C: Clock>(turn: u64, terms: &TurnTerms, clock: &mut C) -> Moment
     ensures moment { IsMomentOf turn terms.now (C.given clock.old) (C.given clock.new) result }
     ensures clock { IsSome terms.now.given → clock.new ≡ clock.old }
 {
@@ -94,7 +94,7 @@ fn moment_of_turn<C: Clock>(turn: u64, terms: &TurnTerms, clock: &mut C) -> u32
 }
 
 /// The moment of a turn: the one that is given, or the clock's.
-fn moment_given<C: Clock>(given: Option<u32>, clock: &mut C) -> u32
+fn moment_given<C: Clock>(given: Option<Moment>, clock: &mut C) -> Moment
     ensures moment { MomentsOf given (C.given clock.old) (C.given clock.new) (result ∷ []) }
     ensures clock { IsSome given → clock.new ≡ clock.old }
 {
@@ -111,8 +111,8 @@ fn take_turn<D: Disk, P: Party<D>, A: Air>(
     disk: &mut D,
     air: &mut A,
     buffers: &mut Buffers,
-    moment: u32,
-    last: u32,
+    moment: Moment,
+    last: Moment,
 ) -> Result<bool, NodeStop>
     requires { P.course.is_fit (at party.old disk.old) }
     ensures { TookTurn P.course A.Air air.old air.new (at party.old disk.old) (at party.new disk.new)
@@ -141,7 +141,7 @@ fn hear_octets<D: Disk, P: Party<D>, A: Air>(
     disk: &mut D,
     air: &mut A,
     octets: &[u8],
-    moment: u32,
+    moment: Moment,
     text: &mut Text,
 ) -> Result<(), NodeStop>
     requires { P.course.is_fit (at party.old disk.old) }
@@ -163,7 +163,7 @@ fn hear_piece<D: Disk, P: Party<D>, A: Air>(
     disk: &mut D,
     air: &mut A,
     piece: &[u8],
-    moment: u32,
+    moment: Moment,
     text: &mut Text,
 ) -> Result<usize, NodeStop>
     requires some { 0 < length piece.now }
@@ -176,10 +176,10 @@ fn hear_piece<D: Disk, P: Party<D>, A: Air>(
             put_all(party, disk, air, text)?;
             Ok(taken)
         }
-        Err(why) => {
+        Err(stop) => {
             // What it halts by is the answer, whatever becomes of saying the rest.
             let _ = put_all(party, disk, air, text);
-            Err(NodeStop::from(why))
+            Err(stop)
         }
     }
 }
@@ -189,8 +189,8 @@ fn tick<D: Disk, P: Party<D>, A: Air>(
     party: &mut P,
     disk: &mut D,
     air: &mut A,
-    moment: u32,
-    last: u32,
+    moment: Moment,
+    last: Moment,
     text: &mut Text,
 ) -> Result<(), NodeStop>
     requires { P.course.is_fit (at party.old disk.old) }

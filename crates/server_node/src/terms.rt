@@ -1,7 +1,7 @@
 //! What a session and a server are served with, and their end.
 
 use file_store::Limits;
-use px_base::Call;
+use px_base::{Call, Moment};
 
 /// A session or a server came to the end of the air.
 #[derive(Clone, Copy, Debug, PartialEq, Eq)]
@@ -16,7 +16,7 @@ pub struct SessionTerms {
     /// Whose session it is.
     pub caller: Call,
     /// The moment of each turn; where none is given each turn takes one of the clock.
-    pub moment: Option<u32>,
+    pub moment: Option<Moment>,
     /// What the store may take, where its disk is formatted.
     pub limits: Limits,
     /// How many polls may be made.

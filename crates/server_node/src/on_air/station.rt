@@ -8,7 +8,8 @@ use ax25_frames::Frame;
 use disk_model::Disk;
 use ftl0_server::Server;
 use ftl0_server::laws::empties_law;
-use node::{Halt, Station};
+use node::{NodeStop, Station};
+use px_base::Moment;
 
 /// A server as a station. It must be closed, which parks all uploads.
 pub(crate) struct ServerStation {
@@ -36,14 +37,14 @@ impl<D: Disk> Station<D> for ServerStation {
 
     ghost course = { server_course D.Disk };
 
-    fn hear(&mut self, disk: &mut D, frame: &Frame<'_>, moment: u32) -> Result<(), Halt> {
+    fn hear(&mut self, disk: &mut D, frame: &Frame<'_>, moment: Moment) -> Result<(), NodeStop> {
         match self.server.hear(disk, frame, moment) {
             Ok(()) => Ok(()),
-            Err(fault) => Err(Halt::from(fault)),
+            Err(fault) => Err(NodeStop::from(fault)),
         }
     }
 
-    fn tick(&mut self, disk: &mut D, moment: u32) {
+    fn tick(&mut self, disk: &mut D, moment: Moment) {
         match self.server.tick(disk, moment) {
             Ok(()) => {}
             Err(_fault) => unreachable!(),

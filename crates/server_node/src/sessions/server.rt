@@ -12,8 +12,8 @@ use file_store::FileStore;
 use ftl0_packets::{PacketFed, PacketReader};
 use ftl0_session::lists::Lists;
 use ftl0_session::{Replies, Session};
-use node::{Halt, Party};
-use px_base::Call;
+use node::{NodeStop, Party};
+use px_base::{Call, Moment};
 use std::marker::Model;
 
 /// What serves one session: the reader of its packets, its state, the store, the lists of all callers, and what it
@@ -46,7 +46,7 @@ impl Model for SessionServer {
 impl SessionServer {
     /// Before the first packet, over this store, of which no upload is out, and without lists. It has LOGIN_RESP at
     /// this moment to say. Takes no memory.
-    pub(crate) fn new(caller: Call, first: u32, store: FileStore, lists: Lists) -> SessionServer
+    pub(crate) fn new(caller: Call, first: Moment, store: FileStore, lists: Lists) -> SessionServer
         requires nothing_out { NothingOut store.files }
         requires no_lists { lists ≡ [] }
         ensures { result ≡ new_server caller store (login_text first) }
@@ -85,7 +85,7 @@ impl SessionServer {
 impl<D: Disk> Party<D> for SessionServer {
     ghost course = { session_course D.Disk };
 
-    fn hear(&mut self, disk: &mut D, piece: &[u8], moment: u32) -> Result<usize, Halt> {
+    fn hear(&mut self, disk: &mut D, piece: &[u8], moment: Moment) -> Result<usize, NodeStop> {
         let (taken, fed) = self.reader.feed(piece);
         if let PacketFed::Whole = fed {
             let answer = self.session.take(
@@ -98,13 +98,13 @@ impl<D: Disk> Party<D> for SessionServer {
             );
             if let Err(fault) = answer {
                 self.halted = true;
-                return Err(Halt::from(fault));
+                return Err(NodeStop::from(fault));
             }
         }
         Ok(taken)
     }
 
-    fn tick(&mut self, _disk: &mut D, _moment: u32) {}
+    fn tick(&mut self, _disk: &mut D, _moment: Moment) {}
 
     fn next_out(&mut self, disk: &mut D, text: &mut ArrayVec<u8, 2049>) -> bool {
         if !self.replies.is_empty() {

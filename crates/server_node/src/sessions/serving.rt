@@ -16,7 +16,7 @@ use file_store::FileStore;
 use file_store::laws::state_law;
 use ftl0_session::lists::Lists;
 use node::{TurnTerms, take_turns};
-use px_base::{Air, Clock};
+use px_base::{Air, Clock, Moment};
 use std::alloc::Global;
 
 /// Serves one session over FTL0 octets without a link. The store is recovered from the disk first, and the lists are
@@ -73,7 +73,7 @@ pub fn session<D: Disk, A: Air, C: Clock>(
 }
 
 /// The first moment: the one that is given, or the clock's.
-fn moment_of<C: Clock>(given: Option<u32>, clock: &mut C) -> u32
+fn moment_of<C: Clock>(given: Option<Moment>, clock: &mut C) -> Moment
     ensures moment { MomentsOf given (C.given clock.old) (C.given clock.new) (result ∷ []) }
     ensures clock { IsSome given → clock.new ≡ clock.old }
 {

@@ -21,4 +21,4 @@ put_all-requires g c =
 pub put_all-requires-in-Err : goal.put_all-requires-in-Err
 put_all-requires-in-Err g c =
     let h = c.in-Err.ensures.halts in
-    (at c.args.party.now c.args.disk.now, octets_at c.args.moment (take h.0 c.args.piece.now), Some c.in-Err.why, [], h.1)
+    (at c.args.party.now c.args.disk.now, octets_at c.args.moment (take h.0 c.args.piece.now), Some h.1.0, [], h.1.2)

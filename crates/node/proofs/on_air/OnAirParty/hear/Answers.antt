@@ -61,18 +61,23 @@ returns-in-Err-clause-halts g c =
     let moment = c.args.moment in
     let piece = c.args.piece.now in
     let count = c.loop-count.count + c.pass-count.result in
-    let mid = c.pass-count.new.self in (
+    let mid = c.pass-count.new.self in
+    let halt = c.in-Err.ensures.takes in (
       count + 1,
-      fed-frame g.S.Station.me (at c.args.self.now c.args.disk.now) (at (record { reader = mid; station = c.loop-count.self.station }) c.loop-count.disk) (octets_at moment (take count piece))
-          (feeding-run g.S.Station.me (at c.args.self.now c.args.disk.now) (at c.loop-count.self c.loop-count.disk) moment piece c.loop-count.count c.pass-count.result c.loop-count.invariant mid c.pass-count.ensures.me c.pass-count.ensures.hears)
-          c.feed.new.self _ moment (value_of c.in-Some.frame ∷ []) c.feed.ensures.me
-          (λ all heard. (
-            octet-heard mid.me mid c.feed.new.self _ all heard c.feed.result c.feed.ensures.hears,
-            one-frame mid.me mid c.feed.new.self _ all heard c.feed.new.self.me (Some (value_of c.in-Some.frame)) c.feed.ensures.me (c.feed.ensures.ended.0 (is_true c.feed.result c.if-not-feed.false)) c.in-Some.ensures.frame c.feed.result c.if-not-feed.false c.feed.ensures.hears,
-          ))
-          g.S.Station.course (Some c.in-Err.why) c.hear.new.self c.hear.new.disk
-          (octets_at moment (take (count + 1) piece)) (octets-more moment piece count _ (take_more piece count 0 (omega (arith, c.loop-count-test.true))))
-          (octets-front moment piece (count + 1) (octets_from_fits piece c.type_inv.piece)) c.requires.fit.2 c.hear.ensures.me c.in-Err.ensures.takes,
+      (
+        halt.0,
+        halt.1,
+        fed-frame g.S.Station.me (at c.args.self.now c.args.disk.now) (at (record { reader = mid; station = c.loop-count.self.station }) c.loop-count.disk) (octets_at moment (take count piece))
+            (feeding-run g.S.Station.me (at c.args.self.now c.args.disk.now) (at c.loop-count.self c.loop-count.disk) moment piece c.loop-count.count c.pass-count.result c.loop-count.invariant mid c.pass-count.ensures.me c.pass-count.ensures.hears)
+            c.feed.new.self _ moment (value_of c.in-Some.frame ∷ []) c.feed.ensures.me
+            (λ all heard. (
+              octet-heard mid.me mid c.feed.new.self _ all heard c.feed.result c.feed.ensures.hears,
+              one-frame mid.me mid c.feed.new.self _ all heard c.feed.new.self.me (Some (value_of c.in-Some.frame)) c.feed.ensures.me (c.feed.ensures.ended.0 (is_true c.feed.result c.if-not-feed.false)) c.in-Some.ensures.frame c.feed.result c.if-not-feed.false c.feed.ensures.hears,
+            ))
+            g.S.Station.course (Some halt.0) c.hear.new.self c.hear.new.disk
+            (octets_at moment (take (count + 1) piece)) (octets-more moment piece count _ (take_more piece count 0 (omega (arith, c.loop-count-test.true))))
+            (octets-front moment piece (count + 1) (octets_from_fits piece c.type_inv.piece)) c.requires.fit.2 c.hear.ensures.me halt.2,
+      ),
     )
 
 pub returns-clause-takes : goal.returns-clause-takes

@@ -11,5 +11,5 @@ returns-in-Ok-clause-takes g c =
 
 pub returns-in-Err-clause-takes : goal.returns-in-Err-clause-takes
 returns-in-Err-clause-takes g c =
-    rw c.from.ensures
-    (owes-event g.D.Disk g.met.D.Disk.lasts_same (at c.args.self.now c.args.disk.now) c.hear.new.self c.hear.new.disk (hears (value_of c.args.frame.now) c.args.moment) (Err c.in-Err.fault) c.in-Err.ensures)
+    let owes = owes-event g.D.Disk g.met.D.Disk.lasts_same (at c.args.self.now c.args.disk.now) c.hear.new.self c.hear.new.disk (hears (value_of c.args.frame.now) c.args.moment) (Err c.in-Err.fault) c.in-Err.ensures in
+    (_, c.from.ensures, owes)

@@ -1,6 +1,7 @@
 -- A whole packet is taken, and less than one waits.
 use Rattle.std.proofs.Common.{ap, sym, ◌∙◌}
 use Rattle.disk_model.proofs.Writes.{octets_from_fits}
+use Rattle.disk_model.specs.declared.halt.Halt.TheVariants as halt
 use Rattle.ftl0_packets.specs.Values.{item_of}
 use Rattle.server_node.proofs.Names.{IsOctets-append, IsOctets-take, ServerState, caller_of, octets_under_way, under-way-less, under_way, working}
 use Rattle.server_node.proofs.sessions.CourseLemmas.{owes-last, owes-more, owes-taken}
@@ -43,4 +44,4 @@ returns-in-Err-clause-halts g c =
     piece (octets_from_fits piece c.type_inv.piece) taken c.feed-taken.new.self c.feed-taken.ensures.octets (item_of c.packet.result) c.packet.ensures.text (c.feed-taken.ensures.readable.0 c.in-Whole.is)
     now new.disk new.replies.items (caller_of new.self) c.in-Err.fault
     (rw c.in-Err.is at c.take-answer.ensures.takes) in
-    (taken, rw (sym c.self.view_is, c.from.ensures) owes)
+    (taken, (halt.Disk, c.from.ensures, rw (sym c.self.view_is) owes))
