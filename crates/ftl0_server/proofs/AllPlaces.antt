@@ -1,6 +1,6 @@
 -- Facts of each place of a server and the slot at it.
 use Rattle.std.proofs.Common.{◌≡◌, ◌≢◌, ℕ, zero, suc, List, [], ◌∷◌, length, set, Bool, false, not, None, Some, refl, sym, ap, subst, arith}
-use Rattle.ftl0_server.proofs.Names.{common_steps, slice_get, position, prefix_len, same_Some, StandsFor, is_pending, Window, PacketLinkState, Connected, ConnectionState, Place, Talking, Vacant, AllPlaces, SendsAs, Slot, connected, free, leaving}
+use Rattle.ftl0_server.proofs.Names.{common_steps, slice_get, position, prefix_len, same_Some, StandsFor, is_pending, Window, PacketLinkState, Connected, ConnectionState, Place, Talking, Empty, AllPlaces, SendsAs, Slot, connected, free, leaving}
 
 pub never : {X : Type 0} (x : X) → None ≡ Some x → ⊥
 never x same = cc
@@ -13,7 +13,7 @@ suc_same j i same = cc
 
 -- A place and a slot that send alike are of one of these three pairs.
 pub sends-cases : (w : Window) (P : Place → Slot → Type 0) → ((d : ConnectionState) (c : Connected) → StandsFor w d.link c.end → P (Talking d) (connected c))
-    → ((link : PacketLinkState) → is_pending link.link ≡ false → P (Vacant link) free) → ((link : PacketLinkState) (c : Connected) → StandsFor w link.link c.end → P (Vacant link) (leaving c))
+    → ((link : PacketLinkState) → is_pending link.link ≡ false → P (Empty link) free) → ((link : PacketLinkState) (c : Connected) → StandsFor w link.link c.end → P (Empty link) (leaving c))
     → (p : Place) (s : Slot) → SendsAs w p s → P p s
 sends-cases w P talks silent leaves p s sends = grind (arith, common_steps)
 

@@ -1,6 +1,6 @@
 -- Ending places one after another.
 use Rattle.std.proofs.Common.{◌≡◌, ◌≢◌, ℕ, zero, suc, ◌<◌, List, [], ◌∷◌, length, get_or, drop, refl, sym, subst, arith}
-use Rattle.ftl0_server.proofs.Names.{StoreState, IsHeld, caller_of, ConnectionState, HasEnded, MayAllEnd, MayEnd, Place, Moving, Talking, Vacant, AreDistinct, IsAt}
+use Rattle.ftl0_server.proofs.Names.{StoreState, IsHeld, caller_of, ConnectionState, HasEnded, MayAllEnd, MayEnd, Place, Moving, Talking, Empty, AreDistinct, IsAt}
 use Rattle.ftl0_server.proofs.SettledLemmas.{held-kept}
 
 -- the place at this index may be ended
@@ -41,12 +41,12 @@ held-ended store now (Talking d) ps are ended =
           held-kept store now (caller_of d.session) ended.others (caller_of c.session) other c.session.uploads.phase (behind.0 i c at),
       behind.1,
     )
-held-ended store now (Vacant link) ps are ended = subst (λ (s : StoreState). AreHeld s ps) (sym ended) (held-behind store (Vacant link) ps are)
+held-ended store now (Empty link) ps are ended = subst (λ (s : StoreState). AreHeld s ps) (sym ended) (held-behind store (Empty link) ps are)
 
 may-first : (store : StoreState) (p : Place) (ps : List Place) → AreHeld store (p ∷ ps) → MayEnd store p
 may-first store Moving ps are = tt
 may-first store (Talking c) ps are = are.0 0 c refl
-may-first store (Vacant link) ps are = tt
+may-first store (Empty link) ps are = tt
 
 pub may-all : (store : StoreState) (places : List Place) → AreHeld store places → MayAllEnd store places
 may-all store [] are = tt

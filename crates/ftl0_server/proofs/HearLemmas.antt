@@ -71,7 +71,7 @@ module _ (over : Store) (self : ServerState) (server : Server) (is : IsServer ov
       (λ i p s at there sends. same-caller caller p s (λ c talks_is. (settled.seated i c (at ∙ ap (λ (x : Place). Some x) talks_is)).peer_is) sends)
       is.sends.links)
 
-  -- the lowest free place
+  -- the lowest empty place
   pub same-first_empty : position is_empty_place self.places ≡ first_empty server.slots
   same-first_empty = grind (arith, common_steps, same-position, all-to)
 

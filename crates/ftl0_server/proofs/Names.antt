@@ -24,7 +24,7 @@ pub use Rattle.file_store.specs.Working.{CutsOffAmongReads, DoesAmongReads, one_
 pub use Rattle.ftl0_packets.specs.Items.{texts}
 pub use Rattle.ftl0_packets.specs.Layout.{Item, packet_text}
 pub use Rattle.ftl0_packets.specs.Reading.{packets_of, read_item, rest_of, under_way}
-pub use Rattle.ftl0_server.specs.AtPlace.{AllFit, GivesUp, GoesOn, HasBegun, HasEnded, IsOver, IsPlace, IsVacated, KeepsStore, MayAllEnd, MayBegin, MayEnd, MayHear, MayTick, PlaceFits, PlaceHears, PlaceHearsBy, Works}
+pub use Rattle.ftl0_server.specs.AtPlace.{AllFit, GivesUp, GoesOn, HasBegun, HasEnded, IsOver, IsPlace, IsEmptied, KeepsStore, MayAllEnd, MayBegin, MayEnd, MayHear, MayTick, PlaceFits, PlaceHears, PlaceHearsBy, Works}
 pub use Rattle.ftl0_server.specs.Calls.{AwaitsStranger, HandsOut, Hears, HearsEvent, HearsStranger, SamePlaces, SameStore}
 pub use Rattle.ftl0_server.specs.Connection.Connected.{Connected, answering, beginning, greeted}
 pub use Rattle.ftl0_server.specs.Connection.ConnectionState.{ConnectionState, HearsBy, IsAnswered, IsConnection, StandsAfter, is_over, none_left, with_reads}
@@ -32,7 +32,7 @@ pub use Rattle.ftl0_server.specs.Connection.Feeding.{AreFree, Feeds, FeedsAll, H
 pub use Rattle.ftl0_server.specs.Connection.Hearing.{Happened, LooksAtNone, LooksAtNoneAs, NoneDue, NoneDueBehind, hearing, parts_as, parts_of_frame, progressed, rest_as, with_end}
 pub use Rattle.ftl0_server.specs.Connection.Laws.{IsQueued, QueuedLaw, TakingLaw}
 pub use Rattle.ftl0_server.specs.Connection.Taking.{Halt, LookAtNone, Progress, after_due, after_row, enough_free, failing_at, fails, fits, giving_up, goes_on, queued, queuing, replied, resting, taking, taking_row}
-pub use Rattle.ftl0_server.specs.Kept.{AreDistinct, HasLink, IsAt, IsSeated, IsSettled, IsUploadOf, IsVacant, IsWorking, server_state}
+pub use Rattle.ftl0_server.specs.Kept.{AreDistinct, HasLink, IsAt, IsSeated, IsSettled, IsUploadOf, IsEmpty, IsWorking, server_state}
 pub use Rattle.ftl0_server.specs.Places.{GivesOut, PlacesGive, SamePlace, SameTalk}
 pub use Rattle.ftl0_server.specs.Server.{IsSilent, Refused, Server, ServerSends, becoming, called_by, heard_at, hearing_at, hearing_by, hearing_stranger, refusing, sends_by, sends_of_places, server_next, server_ticking, settled, with_slot}
 pub use Rattle.ftl0_server.specs.ServerState.{AllPlaces, IsServer, SaysAs, SendsAs, SendsFor, ServerState, any_pending, has_caller, is_empty_place, place_most, place_pending, places_most}
@@ -41,7 +41,7 @@ pub use Rattle.ftl0_server.specs.Slots.{PlacesSend, Slot, SlotSends, all_freed, 
 pub use Rattle.ftl0_server.specs.declared.connection.fate.Fate.{Fate}
 pub use Rattle.ftl0_server.specs.declared.connection.fate.Fate.TheVariants.{Ends, Stays}
 pub use Rattle.ftl0_server.specs.declared.place.Place.{Place}
-pub use Rattle.ftl0_server.specs.declared.place.Place.TheVariants.{Moving, Talking, Vacant}
+pub use Rattle.ftl0_server.specs.declared.place.Place.TheVariants.{Moving, Talking, Empty}
 pub use Rattle.ftl0_session.proofs.WorkingLemmas.{due-among, due-none, is_among, none-whatever, reads-behind, reads-listed, told-is, write-listed, write-unread, writes-behind, writes-unlisted}
 pub use Rattle.ftl0_session.proofs.uploads.UploadRows.{same_call-decides}
 pub use Rattle.ftl0_session.specs.Downloads.Needs.{AreComplete}

@@ -147,5 +147,5 @@ settled-same me k store ps qs same was =
             λ i c at theirs. let d = same-back ps qs i c same at in let own = is.0 i d.0 d.1 in grind (arith, common_steps),
             λ nobody_has. is.1 (λ i d at theirs. let c = same-get ps qs i d same at in nobody_has i c.0 c.1 (grind (arith, common_steps))),
           );
-      vacant = same-links me k store ps qs same was.vacant;
+      links = same-links me k store ps qs same was.links;
     }

@@ -1,7 +1,7 @@
 -- What an event at one place leaves.
 use Rattle.std.proofs.Common.{◌≡◌, List, [], Bool, true, false, sym, ◌∙◌, subst, arith}
 use Rattle.ftl0_server.specs.Connection.ConnectionState.{Hears}
-use Rattle.ftl0_server.proofs.Names.{common_steps, ⊤, Result, Ok, Err, CallSign, Ghosts, Down, SameStations, StandsFor, Window, PacketLinkState, StoreState, CallerList, among-parked, on_parked, Failure, failed_write, KeepsOtherCallers, AtDisk, at, IsOnlyOut, caller_of, working_on, DiskFault, ConnectionState, HearsBy, IsConnection, with_reads, Fate, Ends, Stays, Connected, Happened, GivesUp, IsOver, IsPlace, PlaceHears, PlaceHearsBy, Works, Place, Vacant, Talking, SendsAs, connected, left_by, slot_after}
+use Rattle.ftl0_server.proofs.Names.{common_steps, ⊤, Result, Ok, Err, CallSign, Ghosts, Down, SameStations, StandsFor, Window, PacketLinkState, StoreState, CallerList, among-parked, on_parked, Failure, failed_write, KeepsOtherCallers, AtDisk, at, IsOnlyOut, caller_of, working_on, DiskFault, ConnectionState, HearsBy, IsConnection, with_reads, Fate, Ends, Stays, Connected, Happened, GivesUp, IsOver, IsPlace, PlaceHears, PlaceHearsBy, Works, Place, Empty, Talking, SendsAs, connected, left_by, slot_after}
 use Rattle.ftl0_server.proofs.connection.HearLemmas.{parks-same}
 
 -- What two events one after another leave of the files of other callers.
@@ -12,11 +12,11 @@ others-then before mid now caller first second = grind (arith, common_steps)
 -- Where the session is over its upload is parked, and the link left.
 module _ {D : Type 0} (g : Ghosts D) (w : Window) (event : List Failure → Happened) (store mid now : StoreState) (lists : List CallerList) (disk disk_now : D)
     (connection : ConnectionState) (gives_up : GivesUp mid now) (link : PacketLinkState) (same : link.link ≡ connection.link) where
-  left : (happened : Happened) → happened.over ≡ true → StandsFor w connection.link happened.after.end → SendsAs w (Vacant link) (slot_after happened)
-  left happened over stands = subst (λ (b : Bool). SendsAs w (Vacant link) (left_by b happened.after)) (sym over) (rw (sym same) at stands)
+  left : (happened : Happened) → happened.over ≡ true → StandsFor w connection.link happened.after.end → SendsAs w (Empty link) (slot_after happened)
+  left happened over stands = subst (λ (b : Bool). SendsAs w (Empty link) (left_by b happened.after)) (sym over) (rw (sym same) at stands)
 
   heard-over : (result : Result ⊤ DiskFault) → HearsBy g w event (at store disk) (working_on mid lists disk_now) connection Ends result
-      → PlaceHearsBy g w event (at store disk) (working_on now lists disk_now) (Vacant link) result
+      → PlaceHearsBy g w event (at store disk) (working_on now lists disk_now) (Empty link) result
   heard-over (Ok done) by = (
     by.0,
     by.1.0,
@@ -46,7 +46,7 @@ module _ {D : Type 0} (g : Ghosts D) (w : Window) (event : List Failure → Happ
 -- its session is over
 pub hears-over : {D : Type 0} (g : Ghosts D) (w : Window) (event : List Failure → Happened) (store mid now : StoreState) (lists : List CallerList) (disk disk_now : D) (connection : ConnectionState)
     (link : PacketLinkState) → link.link ≡ connection.link → (told : Fate × Result ⊤ DiskFault) → GivesUp mid now → told.0 ≡ Ends
-    → Hears g w event (at store disk) (working_on mid lists disk_now) connection told → PlaceHears g w event (at store disk) (working_on now lists disk_now) (Vacant link) told.1
+    → Hears g w event (at store disk) (working_on mid lists disk_now) connection told → PlaceHears g w event (at store disk) (working_on now lists disk_now) (Empty link) told.1
 hears-over g w event store mid now lists disk disk_now connection link same told gives_up ends heard =
     let here : Fate → Type 0 = λ fate. HearsBy g w (with_reads event heard.parts) (at store disk) (working_on mid lists disk_now) connection fate told.1 in
     record {
@@ -78,6 +78,6 @@ talks-as w store place connection d is here =
 -- an event ends the session at a place
 pub works-over : (before mid now : StoreState) (old then : ConnectionState) (link : PacketLinkState) → caller_of then.session ≡ caller_of old.session
     → KeepsOtherCallers before mid (caller_of old.session) → IsOnlyOut mid then.session.uploads → IsOver mid now then → link.link ≡ then.link
-    → SameStations old.link then.link → (mid.journal.failed ≡ false → then.link.state ≡ Down) → Works before now (Talking old) (Vacant link)
+    → SameStations old.link then.link → (mid.journal.failed ≡ false → then.link.state ≡ Down) → Works before now (Talking old) (Empty link)
 works-over before mid now old then link caller others only over same stations down =
     let gives_up = parks-same mid now then.session.uploads.phase over.parks in grind (arith, common_steps)

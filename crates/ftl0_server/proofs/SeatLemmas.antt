@@ -1,6 +1,6 @@
 -- A connection is seated at a place that has no session.
 use Rattle.std.proofs.Common.{◌≡◌, ◌≢◌, ℕ, zero, suc, ◌+◌, ◌<◌, List, [], ◌∷◌, length, set, cond, get_or, Bool, true, false, not, Option, None, Some, refl, sym, ◌∙◌, ap, subst, inl, inr, arith}
-use Rattle.ftl0_server.proofs.Names.{common_steps, slice_get, position, prefix_len, lt-ltb, All-get_or, All-set, slice_get-get_or, CallSign, Kept, is_pending, slice_get-set_other, slice_get-set_same, PacketLinkState, StoreState, Store, NoOtherOut, number_of, same_call-decides, has_left, SessionState, caller_of, HasBegun, MayBegin, AwaitsStranger, Connected, answering, ConnectionState, IsAnswered, IsConnection, Place, Moving, Talking, Vacant, HasLink, IsAt, IsSeated, IsSettled, IsUploadOf, IsVacant, Server, called_by, with_slot, IsServer, ServerState, has_caller, is_empty_place, place_pending, connected}
+use Rattle.ftl0_server.proofs.Names.{common_steps, slice_get, position, prefix_len, lt-ltb, All-get_or, All-set, slice_get-get_or, CallSign, Kept, is_pending, slice_get-set_other, slice_get-set_same, PacketLinkState, StoreState, Store, NoOtherOut, number_of, same_call-decides, has_left, SessionState, caller_of, HasBegun, MayBegin, AwaitsStranger, Connected, answering, ConnectionState, IsAnswered, IsConnection, Place, Moving, Talking, Empty, HasLink, IsAt, IsSeated, IsSettled, IsUploadOf, IsEmpty, Server, called_by, with_slot, IsServer, ServerState, has_caller, is_empty_place, place_pending, connected}
 use Rattle.ftl0_server.proofs.AllPlaces.{all-set, never}
 use Rattle.ftl0_server.proofs.HearLemmas.{found-passes, found-within, quiet-any}
 use Rattle.ftl0_server.proofs.SettledLemmas.{at-set, same-call}
@@ -62,12 +62,12 @@ module _ (me : CallSign) (k : ℕ) (store : StoreState) (places : List Place) (i
       ]
 
   pub settled-seat : IsSettled me k store (set places i (Talking c))
-  settled-seat = record { good = settled.good; seated = seats-seated; distinct = seats-distinct; only = seats-only; vacant = All-set (HasLink me k store) places i (Talking c) tt settled.vacant }
+  settled-seat = record { good = settled.good; seated = seats-seated; distinct = seats-distinct; only = seats-only; links = All-set (HasLink me k store) places i (Talking c) tt settled.links }
 
 -- a new connection of a server's is seated
-new-seated : (me : CallSign) (k : ℕ) (store : StoreState) (link : Kept) (caller : CallSign) (poll : Bool) (moment : ℕ) (left : Bool) (c : ConnectionState) → IsVacant me k store link
+new-seated : (me : CallSign) (k : ℕ) (store : StoreState) (link : Kept) (caller : CallSign) (poll : Bool) (moment : ℕ) (left : Bool) (c : ConnectionState) → IsEmpty me k store link
     → IsAnswered link caller poll moment left c → IsSeated me k store c
-new-seated me k store link caller poll moment left c vacant answered = grind (arith, common_steps)
+new-seated me k store link caller poll moment left c empty answered = grind (arith, common_steps)
 
 -- the server with a new connection at this place
 server-seated : (over : Store) (old : ServerState) (server : Server) (place : ℕ) (c : ConnectionState) (d : Connected) → IsServer over old server
@@ -77,11 +77,11 @@ server-seated over old server place c d is talks = grind (arith, common_steps, a
 
 -- ---- a session begins at the place that was found
 
-vacant-here : (me : CallSign) (k : ℕ) (store : StoreState) (p : Place) → is_empty_place p ≡ true → HasLink me k store p → place_pending p ≡ false
-    → (link : PacketLinkState) × (p ≡ Vacant link) × IsVacant me k store link.link × (is_pending link.link ≡ false)
-vacant-here me k store Moving empty has quiet = absurd has
-vacant-here me k store (Talking c) empty has quiet = absurd cc
-vacant-here me k store (Vacant link) empty has quiet = (link, refl, has, quiet)
+empty-here : (me : CallSign) (k : ℕ) (store : StoreState) (p : Place) → is_empty_place p ≡ true → HasLink me k store p → place_pending p ≡ false
+    → (link : PacketLinkState) × (p ≡ Empty link) × IsEmpty me k store link.link × (is_pending link.link ≡ false)
+empty-here me k store Moving empty has quiet = absurd has
+empty-here me k store (Talking c) empty has quiet = absurd cc
+empty-here me k store (Empty link) empty has quiet = (link, refl, has, quiet)
 
 module _ (old : ServerState) (caller : CallSign) (place : ℕ) (d : Place) (found : position is_empty_place old.places ≡ Some place) (awaits : AwaitsStranger old caller)
     (settled : IsSettled old.me old.k old.store old.places) where
@@ -91,20 +91,20 @@ module _ (old : ServerState) (caller : CallSign) (place : ℕ) (d : Place) (foun
   at : slice_get old.places place ≡ Some (get_or old.places place d)
   at = slice_get-get_or old.places place d within
 
-  vacant : (link : PacketLinkState) × (get_or old.places place d ≡ Vacant link) × IsVacant old.me old.k old.store link.link × (is_pending link.link ≡ false)
-  vacant =
-      vacant-here old.me old.k old.store (get_or old.places place d) (found-passes is_empty_place old.places place d found)
-      (All-get_or (HasLink old.me old.k old.store) old.places place d within settled.vacant) (quiet-any old.places place (get_or old.places place d) at awaits.quiet)
+  empty : (link : PacketLinkState) × (get_or old.places place d ≡ Empty link) × IsEmpty old.me old.k old.store link.link × (is_pending link.link ≡ false)
+  empty =
+      empty-here old.me old.k old.store (get_or old.places place d) (found-passes is_empty_place old.places place d found)
+      (All-get_or (HasLink old.me old.k old.store) old.places place d within settled.links) (quiet-any old.places place (get_or old.places place d) at awaits.quiet)
 
   pub may-begin : MayBegin (get_or old.places place d)
-  may-begin = rw vacant.1 (vacant.2.down awaits.healthy, vacant.3)
+  may-begin = rw empty.1 (empty.2.down awaits.healthy, empty.3)
 
   module _ (poll : Bool) (moment : ℕ) (new : Place) (begun : HasBegun caller poll moment (has_left old.lists caller) (get_or old.places place d) new) where
-    answered : (c : ConnectionState) × (new ≡ Talking c) × IsAnswered vacant.0.link caller poll moment (has_left old.lists caller) c
-    answered = rw vacant.1 at begun
+    answered : (c : ConnectionState) × (new ≡ Talking c) × IsAnswered empty.0.link caller poll moment (has_left old.lists caller) c
+    answered = rw empty.1 at begun
 
     no-one : (e : ConnectionState) → IsAt old.places place e → ⊥
-    no-one e there = let same : Some (Talking e) ≡ Some (Vacant vacant.0) = sym there ∙ at ∙ ap (λ (p : Place). Some p) vacant.1 in cc
+    no-one e there = let same : Some (Talking e) ≡ Some (Empty empty.0) = sym there ∙ at ∙ ap (λ (p : Place). Some p) empty.1 in cc
 
     pub begun-settled : IsSettled old.me old.k old.store (set old.places place new)
     begun-settled =
@@ -112,7 +112,7 @@ module _ (old : ServerState) (caller : CallSign) (place : ℕ) (d : Place) (foun
         let own : caller_of c.session ≡ caller = ap caller_of answered.2.session in
         rw answered.1
         (settled-seat old.me old.k old.store old.places place c within no-one settled (λ j e there same. nobody caller old.places awaits.stranger j e there (same ∙ own))
-        (new-seated old.me old.k old.store vacant.0.link caller poll moment (has_left old.lists caller) c vacant.2 answered.2) (ap (λ (s : SessionState). number_of s.uploads.phase) answered.2.session))
+        (new-seated old.me old.k old.store empty.0.link caller poll moment (has_left old.lists caller) c empty.2 answered.2) (ap (λ (s : SessionState). number_of s.uploads.phase) answered.2.session))
 
     pub begun-server : (over : Store) (server : Server) → IsServer over old server
         → IsServer over (record old { places = set old.places place new }) (called_by server caller poll moment (Some place))

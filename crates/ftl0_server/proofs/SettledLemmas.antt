@@ -4,7 +4,7 @@ use Rattle.file_store.specs.Upload.{entry_for}
 use Rattle.ftl0_session.specs.Uploads.Session.{is_same_call}
 use Rattle.ftl0_session.specs.declared.uploads.phase.Phase.TheVariants as phase
 use Rattle.ftl0_session.proofs.downloads.DueLemmas.{due-kept}
-use Rattle.ftl0_server.proofs.Names.{common_steps, slice_get, eqb_tells, All-set, same_Some, slice_get_within, CallSign, slice_get-set_other, slice_get-set_same, PacketLinkState, KeepsComplete, partial, StoreState, store_in, KeepsOtherCallers, NoOtherOut, PhaseIsHeld, state_of, Phase, same_call-decides, caller_of, ConnectionState, GoesOn, IsVacated, Works, Place, Moving, Talking, Vacant, HasLink, IsAt, IsSeated, IsSettled, IsUploadOf, IsVacant, SaysAs, Slot}
+use Rattle.ftl0_server.proofs.Names.{common_steps, slice_get, eqb_tells, All-set, same_Some, slice_get_within, CallSign, slice_get-set_other, slice_get-set_same, PacketLinkState, KeepsComplete, partial, StoreState, store_in, KeepsOtherCallers, NoOtherOut, PhaseIsHeld, state_of, Phase, same_call-decides, caller_of, ConnectionState, GoesOn, IsEmptied, Works, Place, Moving, Talking, Empty, HasLink, IsAt, IsSeated, IsSettled, IsUploadOf, IsEmpty, SaysAs, Slot}
 
 bool-cases : (b : Bool) → (b ≡ true) ⊎ (b ≡ false)
 bool-cases b = grind (arith, common_steps)
@@ -39,7 +39,7 @@ pub at-set : (places : List Place) (i j : ℕ) (p : Place) (c : ConnectionState)
 at-set places i j p c within at =
     grind (arith, common_steps, eqb_tells, same_Some, slice_get-set_same, slice_get-set_other)
 
-pub leaving-no : (link : PacketLinkState) (c : ConnectionState) → Vacant link ≡ Talking c → ⊥
+pub leaving-no : (link : PacketLinkState) (c : ConnectionState) → Empty link ≡ Talking c → ⊥
 leaving-no link c same = cc
 
 -- ---- an event at the place of a connection
@@ -65,7 +65,7 @@ module _ (me : CallSign) (k : ℕ) (before now : StoreState) (places : List Plac
     link-kept : (p : Place) → HasLink me k before p → HasLink me k now p
     link-kept Moving has = has
     link-kept (Talking c) has = has
-    link-kept (Vacant link) has = record { me_is = has.me_is; k_is = has.k_is; down = λ fine. has.down (healthy fine) }
+    link-kept (Empty link) has = record { me_is = has.me_is; k_is = has.k_is; down = λ fine. has.down (healthy fine) }
 
     -- the place is this one now
     module _ (p : Place) (same : (c : ConnectionState) → p ≡ Talking c → caller_of c.session ≡ caller_of old.session)
@@ -98,7 +98,7 @@ module _ (me : CallSign) (k : ℕ) (before now : StoreState) (places : List Plac
               | inr ne ↦
                   out-kept before now (caller_of old.session) others caller number ne (settled.only caller number (set-upload caller number ne is))
             ];
-        vacant = All-set (HasLink me k now) places i p link (λ j d lt. link-kept (get_or places j d) (settled.vacant j d lt));
+        links = All-set (HasLink me k now) places i p link (λ j d lt. link-kept (get_or places j d) (settled.links j d lt));
       }
 
 -- a place that is what it was
@@ -127,16 +127,16 @@ module _ (me : CallSign) (k : ℕ) (before now : StoreState) (places : List Plac
   settled-goes_on d on = search (rules, arith, settled-set, goes_on-same, goes_on-seat, goes_on-own)
 
   -- its session is over
-  over-own : (link : PacketLinkState) → NoOtherOut now (caller_of c.session) None → (number : Option ℕ) → IsUploadOf (set places i (Vacant link)) (caller_of c.session) number
+  over-own : (link : PacketLinkState) → NoOtherOut now (caller_of c.session) None → (number : Option ℕ) → IsUploadOf (set places i (Empty link)) (caller_of c.session) number
       → NoOtherOut now (caller_of c.session) number
   over-own link only number is = grind (arith, common_steps)
 
-  over-link : (link : PacketLinkState) → IsVacated now c link.link → IsVacant me k now link.link
+  over-link : (link : PacketLinkState) → IsEmptied now c link.link → IsEmpty me k now link.link
   over-link link over = let seat = settled.seated i c at in grind (arith, common_steps)
 
-  pub settled-over : (link : PacketLinkState) → IsVacated now c link.link → IsSettled me k now (set places i (Vacant link))
+  pub settled-over : (link : PacketLinkState) → IsEmptied now c link.link → IsSettled me k now (set places i (Empty link))
   settled-over link over =
-      settled-set me k before now places i c at settled others complete healthy (Vacant link) (λ e is. absurd (leaving-no link e is)) (λ e is. absurd (leaving-no link e is))
+      settled-set me k before now places i c at settled others complete healthy (Empty link) (λ e is. absurd (leaving-no link e is)) (λ e is. absurd (leaving-no link e is))
       (over-own link over.only) (over-link link over)
 
 -- nothing changes
@@ -151,8 +151,8 @@ pub settled-works : (me : CallSign) (k : ℕ) (before now : StoreState) (places 
 settled-works me k before now places i Moving new at settled works complete healthy = unchanged me k before now places i Moving new at settled works.0 works.1
 settled-works me k before now places i (Talking c) Moving at settled works complete healthy = absurd works.1
 settled-works me k before now places i (Talking c) (Talking d) at settled works complete healthy = settled-goes_on me k before now places i c at settled works.0 complete healthy d works.1
-settled-works me k before now places i (Talking c) (Vacant link) at settled works complete healthy = settled-over me k before now places i c at settled works.0 complete healthy link works.1
-settled-works me k before now places i (Vacant link) new at settled works complete healthy = unchanged me k before now places i (Vacant link) new at settled works.0 works.1
+settled-works me k before now places i (Talking c) (Empty link) at settled works complete healthy = settled-over me k before now places i c at settled works.0 complete healthy link works.1
+settled-works me k before now places i (Empty link) new at settled works complete healthy = unchanged me k before now places i (Empty link) new at settled works.0 works.1
 
 -- what another place is doesn't change
 pub says-kept : (me : CallSign) (k : ℕ) (before now : StoreState) (places : List Place) (i : ℕ) (old new : Place) → slice_get places i ≡ Some old

@@ -1,6 +1,6 @@
 -- Ticks at the first places of a server.
 use Rattle.std.proofs.Common.{◌≡◌, ℕ, zero, suc, List, [], ◌∷◌, length, set, drop, map, false, Some, refl, sym, ap, arith}
-use Rattle.ftl0_server.proofs.Names.{common_steps, slice_get, same_Some, CallSign, Window, StoreState, IsOnlyOut, number_of, caller_of, ConnectionState, IsPlace, MayTick, Works, Place, Moving, Talking, Vacant, IsAt, IsSettled, AllPlaces, any_pending, place_pending, Slot, slot_ticking}
+use Rattle.ftl0_server.proofs.Names.{common_steps, slice_get, same_Some, CallSign, Window, StoreState, IsOnlyOut, number_of, caller_of, ConnectionState, IsPlace, MayTick, Works, Place, Moving, Talking, Empty, IsAt, IsSettled, AllPlaces, any_pending, place_pending, Slot, slot_ticking}
 use Rattle.ftl0_server.proofs.AllPlaces.{all-set-to, never}
 use Rattle.ftl0_server.proofs.NextLemmas.{none_first}
 use Rattle.ftl0_server.proofs.SettledLemmas.{says-kept}
@@ -55,7 +55,7 @@ may-tick me k store places i (Talking c) at settled none =
     let seated = settled.seated i c at in
     let only = own-only me k store places i c at settled in
     let quiet = quiet-at places i (Talking c) at none in grind (arith, common_steps)
-may-tick me k store places i (Vacant link) at settled none = tt
+may-tick me k store places i (Empty link) at settled none = tt
 
 -- the places behind it are as they were
 pub quiet-later : (places : List Place) (i : ℕ) (new : Place) → any_pending (drop i places) ≡ false → any_pending (drop (suc i) (set places i new)) ≡ false

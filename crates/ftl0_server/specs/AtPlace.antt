@@ -26,7 +26,7 @@ use Rattle.ftl0_server.specs.Connection.Connected.{Connected}
 use Rattle.ftl0_server.specs.Connection.Hearing.{Happened, LooksAtNone, hearing}
 use Rattle.ftl0_server.specs.Connection.Taking.{fails, goes_on}
 use Rattle.ftl0_server.specs.declared.place.Place.{Place}
-use Rattle.ftl0_server.specs.declared.place.Place.TheVariants.{Moving, Talking, Vacant}
+use Rattle.ftl0_server.specs.declared.place.Place.TheVariants.{Moving, Talking, Empty}
 use Rattle.ftl0_server.specs.ServerState.{SaysAs, SendsAs}
 use Rattle.ftl0_server.specs.Slots.{Slot, connected, slot_after}
 
@@ -56,25 +56,25 @@ pub record IsAwaiting (store : StoreState) (connection : ConnectionState) : Type
 abbrev pub MayTick : StoreState → Place → Type 0
 MayTick store Moving = ⊤
 MayTick store (Talking connection) = IsAwaiting store connection
-MayTick store (Vacant link) = ⊤
+MayTick store (Empty link) = ⊤
 
 -- the place has the connection of this frame's sender, which may hear it
 abbrev pub MayHear : StoreState → FrameValue → Place → Type 0
 MayHear store frame Moving = ⊥
 MayHear store frame (Talking connection) = IsAwaiting store connection × IsFromPeer connection.link frame
-MayHear store frame (Vacant link) = ⊥
+MayHear store frame (Empty link) = ⊥
 
 -- the place may begin a session: it has none, and its link is down, with nothing pending
 abbrev pub MayBegin : Place → Type 0
 MayBegin Moving = ⊥
 MayBegin (Talking connection) = ⊥
-MayBegin (Vacant link) = (link.link.state ≡ Down) × (is_pending link.link ≡ false)
+MayBegin (Empty link) = (link.link.state ≡ Down) × (is_pending link.link ≡ false)
 
 -- the place's link answered a SABM of this caller: the place has the caller's connection
 abbrev pub HasBegun : CallSign → Bool → ℕ → Bool → Place → Place → Type 0
 HasBegun caller poll moment left Moving new = ⊥
 HasBegun caller poll moment left (Talking connection) new = ⊥
-HasBegun caller poll moment left (Vacant link) new =
+HasBegun caller poll moment left (Empty link) new =
     (connection : ConnectionState) × (new ≡ Talking connection)
     × IsAnswered link.link caller poll moment left connection
 
@@ -82,7 +82,7 @@ HasBegun caller poll moment left (Vacant link) new =
 abbrev pub MayLeave : StoreState → Place → Type 0
 MayLeave store Moving = ⊥
 MayLeave store (Talking connection) = IsHeld store connection.session.uploads
-MayLeave store (Vacant link) = ⊥
+MayLeave store (Empty link) = ⊥
 
 -- The connection is of the same stations and the same caller, its link is up, and the store holds its session's upload,
 -- the only one of its caller's that is out, and the complete files of which it sends.
@@ -96,7 +96,7 @@ pub record GoesOn (store : StoreState) (old new : ConnectionState) : Type 0 wher
 
 -- The session of a connection is over: no upload of its caller is out, and its link, which is of the same stations, is
 -- down, unless the store has failed.
-pub record IsVacated (store : StoreState) (old : ConnectionState) (link : Kept) : Type 0 where
+pub record IsEmptied (store : StoreState) (old : ConnectionState) (link : Kept) : Type 0 where
   pub only : NoOtherOut store (caller_of old.session) None
   pub stations : SameStations old.link link
   pub down : store.journal.failed ≡ false → link.state ≡ Down
@@ -105,7 +105,7 @@ pub record IsVacated (store : StoreState) (old : ConnectionState) (link : Kept) 
 abbrev pub IsLeft : StoreState → ConnectionState → Place → Type 0
 IsLeft store old Moving = ⊥
 IsLeft store old (Talking connection) = GoesOn store old connection
-IsLeft store old (Vacant link) = IsVacated store old link.link
+IsLeft store old (Empty link) = IsEmptied store old link.link
 
 -- An event came at a place: the store keeps the uploads of other callers than the connection's. Where there is no
 -- connection nothing changes.
@@ -113,7 +113,7 @@ abbrev pub Works : StoreState → StoreState → Place → Place → Type 0
 Works before now Moving new = (now ≡ before) × (new ≡ Moving)
 Works before now (Talking connection) new =
     KeepsOtherCallers before now (caller_of connection.session) × IsLeft now connection new
-Works before now (Vacant link) new = (now ≡ before) × (new ≡ Vacant link)
+Works before now (Empty link) new = (now ≡ before) × (new ≡ Empty link)
 
 -- What a frame that is heard at a place does, where `event` gives what it makes of the connection there by the writes
 -- and syncs that fail in it: as the connection's call says it, but that the place is the one that is left.
@@ -162,7 +162,7 @@ pub record GivesUp (before now : StoreState) : Type 0 where
 abbrev pub PlaceFits : Place → Type 0
 PlaceFits Moving = ⊤
 PlaceFits (Talking connection) = Fits connection.link
-PlaceFits (Vacant link) = Fits link.link
+PlaceFits (Empty link) = Fits link.link
 
 -- the same of each place
 abbrev pub AllFit : List Place → Type 0
@@ -178,20 +178,20 @@ pub record IsOver (before now : StoreState) (connection : ConnectionState) : Typ
 abbrev pub HasLeft : StoreState → StoreState → Place → Place → Type 0
 HasLeft before now Moving new = ⊥
 HasLeft before now (Talking connection) new =
-    IsOver before now connection × ((link : PacketLinkState) × (new ≡ Vacant link) × (link.link ≡ connection.link))
-HasLeft before now (Vacant link) new = ⊥
+    IsOver before now connection × ((link : PacketLinkState) × (new ≡ Empty link) × (link.link ≡ connection.link))
+HasLeft before now (Empty link) new = ⊥
 
 -- the place may be ended: the store holds its session's upload
 abbrev pub MayEnd : StoreState → Place → Type 0
 MayEnd store Moving = ⊤
 MayEnd store (Talking connection) = IsHeld store connection.session.uploads
-MayEnd store (Vacant link) = ⊤
+MayEnd store (Empty link) = ⊤
 
 -- the session of the place is over, if there was one
 abbrev pub HasEnded : StoreState → StoreState → Place → Type 0
 HasEnded before now Moving = now ≡ before
 HasEnded before now (Talking connection) = IsOver before now connection
-HasEnded before now (Vacant link) = now ≡ before
+HasEnded before now (Empty link) = now ≡ before
 
 -- the places may be ended, one after another
 abbrev pub MayAllEnd : StoreState → List Place → Type 0

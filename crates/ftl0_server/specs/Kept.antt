@@ -10,7 +10,7 @@ use Rattle.ftl0_session.specs.Uploads.SessionState.{IsHeld, NoOtherOut, number_o
 use Rattle.ftl0_session.specs.Downloads.Needs.{AreComplete, IsDueIn}
 use Rattle.ftl0_session.specs.SessionState.{caller_of}
 use Rattle.ftl0_server.specs.declared.place.Place.{Place}
-use Rattle.ftl0_server.specs.declared.place.Place.TheVariants.{Moving, Talking, Vacant}
+use Rattle.ftl0_server.specs.declared.place.Place.TheVariants.{Moving, Talking, Empty}
 use Rattle.ftl0_server.specs.declared.server.Server.TheInside.{Inside}
 use Rattle.ftl0_server.specs.ServerState.{ServerState}
 
@@ -44,7 +44,7 @@ IsUploadOf places caller number =
     → caller_of connection.session ≢ caller) → number ≡ None)
 
 -- a link without a session is this station's, with this window, and down, unless the store has failed
-pub record IsVacant (me : CallSign) (k : ℕ) (store : StoreState) (link : Kept) : Type 0 where
+pub record IsEmpty (me : CallSign) (k : ℕ) (store : StoreState) (link : Kept) : Type 0 where
   pub me_is : link.me ≡ me
   pub k_is : link.k ≡ k
   pub down : store.journal.failed ≡ false → link.state ≡ Down
@@ -53,7 +53,7 @@ pub record IsVacant (me : CallSign) (k : ℕ) (store : StoreState) (link : Kept)
 abbrev pub HasLink : CallSign → ℕ → StoreState → Place → Type 0
 HasLink me k store Moving = ⊥
 HasLink me k store (Talking connection) = ⊤
-HasLink me k store (Vacant link) = IsVacant me k store link.link
+HasLink me k store (Empty link) = IsEmpty me k store link.link
 
 -- Each connection is seated, no caller has two, and of no caller is an upload out but that of its session. Each place
 -- has its link, and unless the store has failed one without a session may begin one.
@@ -63,7 +63,7 @@ pub record IsSettled (me : CallSign) (k : ℕ) (store : StoreState) (places : Li
       (place : ℕ) (connection : ConnectionState) → IsAt places place connection → IsSeated me k store connection
   pub distinct : AreDistinct places
   pub only : (caller : CallSign) (number : Option ℕ) → IsUploadOf places caller number → NoOtherOut store caller number
-  pub vacant : All (HasLink me k store) places
+  pub links : All (HasLink me k store) places
 
 -- some station's places are so, with some window
 abbrev pub IsWorking : StoreState → List Place → Type 0

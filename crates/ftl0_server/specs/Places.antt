@@ -5,7 +5,7 @@ use Rattle.ax25_link.specs.Kept.{Kept, SameStations}
 use Rattle.ax25_link.specs.Window.{Window}
 use Rattle.ftl0_server.specs.Connection.ConnectionState.{ConnectionState}
 use Rattle.ftl0_server.specs.declared.place.Place.{Place}
-use Rattle.ftl0_server.specs.declared.place.Place.TheVariants.{Moving, Talking, Vacant}
+use Rattle.ftl0_server.specs.declared.place.Place.TheVariants.{Moving, Talking, Empty}
 use Rattle.ftl0_server.specs.ServerState.{AllPlaces, SendsAs}
 use Rattle.ftl0_server.specs.Slots.{PlacesSend, Slot, SlotSends, slot_next}
 
@@ -25,13 +25,13 @@ pub record SameTalk (old new : ConnectionState) : Type 0 where
 abbrev pub SamePlace : Place → Place → Type 0
 SamePlace Moving Moving = ⊤
 SamePlace Moving (Talking connection) = ⊥
-SamePlace Moving (Vacant link) = ⊥
+SamePlace Moving (Empty link) = ⊥
 SamePlace (Talking connection) Moving = ⊥
 SamePlace (Talking connection) (Talking after) = SameTalk connection after
-SamePlace (Talking connection) (Vacant link) = ⊥
-SamePlace (Vacant link) Moving = ⊥
-SamePlace (Vacant link) (Talking connection) = ⊥
-SamePlace (Vacant link) (Vacant after) = SameLink link.link after.link
+SamePlace (Talking connection) (Empty link) = ⊥
+SamePlace (Empty link) Moving = ⊥
+SamePlace (Empty link) (Talking connection) = ⊥
+SamePlace (Empty link) (Empty after) = SameLink link.link after.link
 
 -- What is given out where this is sent next: nothing; or the octets of its frame in place of those that the buffer
 -- held.

@@ -77,8 +77,8 @@ heard_at server place happened =
       halt = happened.halt;
     }
 
--- A station without a connection says SABM with this P bit: it gets the lowest free place, or DM with F = P where none
--- is free (AX.25 2.0, 2.4.3.1). LOGIN_RESP says whether numbers are left in its list (FTL0 1990, LOGIN_RESP).
+-- A station without a connection says SABM with this P bit: it gets the lowest empty place, or DM with F = P where none
+-- is empty (AX.25 2.0, 2.4.3.1). LOGIN_RESP says whether numbers are left in its list (FTL0 1990, LOGIN_RESP).
 abbrev pub called_by : Server → CallSign → Bool → ℕ → Option ℕ → Server
 called_by server caller poll moment None = refusing server caller poll
 called_by server caller poll moment (Some place) =

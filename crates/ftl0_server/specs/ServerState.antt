@@ -13,7 +13,7 @@ use Rattle.ftl0_session.specs.SessionState.{caller_of, state_in}
 use Rattle.ftl0_server.specs.Connection.Connected.{Connected}
 use Rattle.ftl0_server.specs.Connection.ConnectionState.{ConnectionState}
 use Rattle.ftl0_server.specs.declared.place.Place.{Place}
-use Rattle.ftl0_server.specs.declared.place.Place.TheVariants.{Moving, Talking, Vacant}
+use Rattle.ftl0_server.specs.declared.place.Place.TheVariants.{Moving, Talking, Empty}
 use Rattle.ftl0_server.specs.Server.{Refused, Server}
 use Rattle.ftl0_server.specs.Slots.{Slot, connected, free, leaving}
 
@@ -27,13 +27,13 @@ pub record ServerState : Type 0 where
   pub lists : List CallerList
 
 -- a place before its first session
-abbrev pub vacant_place : CallSign → ℕ → Place
-vacant_place me k = Vacant (idle_link (window_of k) me)
+abbrev pub new_place : CallSign → ℕ → Place
+new_place me k = Empty (idle_link (window_of k) me)
 
 -- the places of a server that has just started
-abbrev pub all_vacant : CallSign → ℕ → List Place
-all_vacant me k =
-    let place : Place = vacant_place me k in
+abbrev pub new_places : CallSign → ℕ → List Place
+new_places me k =
+    let place : Place = new_place me k in
     place ∷ place ∷ place ∷ place ∷ place ∷ place ∷ place ∷ place ∷ []
 
 -- the place's link is the one of that place, as far as frames go
@@ -42,9 +42,9 @@ SendsAs w Moving slot = ⊥
 SendsAs w (Talking connection) free = ⊥
 SendsAs w (Talking connection) (connected c) = StandsFor w connection.link c.end
 SendsAs w (Talking connection) (leaving c) = ⊥
-SendsAs w (Vacant link) free = is_pending link.link ≡ false
-SendsAs w (Vacant link) (connected c) = ⊥
-SendsAs w (Vacant link) (leaving c) = StandsFor w link.link c.end
+SendsAs w (Empty link) free = is_pending link.link ≡ false
+SendsAs w (Empty link) (connected c) = ⊥
+SendsAs w (Empty link) (leaving c) = StandsFor w link.link c.end
 
 -- what the session of a connection has come to, over this store
 pub record TalksAs (store : StoreState) (connection : ConnectionState) (c : Connected) : Type 0 where
@@ -57,7 +57,7 @@ SaysAs store Moving slot = ⊤
 SaysAs store (Talking connection) free = ⊤
 SaysAs store (Talking connection) (connected c) = TalksAs store connection c
 SaysAs store (Talking connection) (leaving c) = ⊤
-SaysAs store (Vacant link) slot = ⊤
+SaysAs store (Empty link) slot = ⊤
 
 -- this holds of each place and the slot at it, and there are as many of the one as of the other
 abbrev pub AllPlaces : (Place → Slot → Type 0) → List Place → List Slot → Type 0
@@ -84,7 +84,7 @@ pub record IsServer (files : Store) (self : ServerState) (server : Server) : Typ
 abbrev pub place_pending : Place → Bool
 place_pending Moving = false
 place_pending (Talking connection) = is_pending connection.link
-place_pending (Vacant link) = is_pending link.link
+place_pending (Empty link) = is_pending link.link
 
 abbrev pub any_pending : List Place → Bool
 any_pending places = list_any place_pending places
@@ -96,7 +96,7 @@ server_pending self = is_there self.stray || any_pending self.places
 abbrev pub place_most : Place → ℕ
 place_most Moving = 0
 place_most (Talking connection) = most_pending connection.link
-place_most (Vacant link) = most_pending link.link
+place_most (Empty link) = most_pending link.link
 
 abbrev pub places_most : List Place → ℕ
 places_most [] = 0
@@ -109,13 +109,13 @@ server_most self = count_of self.stray + places_most self.places
 abbrev pub is_empty_place : Place → Bool
 is_empty_place Moving = false
 is_empty_place (Talking connection) = false
-is_empty_place (Vacant link) = true
+is_empty_place (Empty link) = true
 
 -- the place has a session of this caller
 abbrev pub has_caller : CallSign → Place → Bool
 has_caller caller Moving = false
 has_caller caller (Talking connection) = is_same_call (caller_of connection.session) caller
-has_caller caller (Vacant link) = false
+has_caller caller (Empty link) = false
 
 -- how many sessions are up
 abbrev pub sessions_in : List Place → ℕ

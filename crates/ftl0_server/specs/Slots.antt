@@ -34,7 +34,7 @@ is_empty (leaving c) = true
 abbrev pub place_of : CallSign → List Slot → Option ℕ
 place_of caller slots = position (is_callers caller) slots
 
--- the lowest free place, if there is one
+-- the lowest empty place, if there is one
 abbrev pub first_empty : List Slot → Option ℕ
 first_empty slots = position is_empty slots
 

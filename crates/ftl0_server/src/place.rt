@@ -21,14 +21,14 @@ use disk_model::{Disk, DiskFault};
 use file_store::FileStore;
 use ftl0_session::lists::Lists;
 use packet_link::PacketLink;
-use px_base::Call;
+use px_base::{Call, Moment};
 use std::mem;
 
 /// A place of a server. It has its link from the server's start on, so that a session that begins takes no memory.
 pub(crate) enum Place {
     /// It has no session: its link is down from the start on, or of a session that is over, and may have frames to give
-    /// out still. Once they are out it is free.
-    Vacant(PacketLink),
+    /// out still.
+    Empty(PacketLink),
     /// It has a caller's connection, with the link.
     Talking(Connection),
     /// Its link is moved from the one to the other: inside a call alone.
@@ -41,7 +41,7 @@ impl Place {
         ensures { result ≡ is_empty_place self.now }
     {
         match self {
-            Place::Vacant(_) => true,
+            Place::Empty(_) => true,
             Place::Talking(_) | Place::Moving => false,
         }
     }
@@ -52,7 +52,7 @@ impl Place {
     {
         match self {
             Place::Talking(connection) => connection.caller() == caller,
-            Place::Vacant(_) | Place::Moving => false,
+            Place::Empty(_) | Place::Moving => false,
         }
     }
 
@@ -61,7 +61,7 @@ impl Place {
         ensures { result ≡ place_pending self.now }
     {
         match self {
-            Place::Vacant(link) => link.pending(),
+            Place::Empty(link) => link.pending(),
             Place::Talking(connection) => connection.pending(),
             Place::Moving => false,
         }
@@ -77,7 +77,7 @@ impl Place {
         ensures same { SamePlace self.old self.new }
     {
         match self {
-            Place::Vacant(link) => link.next_out(out),
+            Place::Empty(link) => link.next_out(out),
             Place::Talking(connection) => connection.next_out(out),
             Place::Moving => false,
         }
@@ -88,19 +88,19 @@ impl Place {
         ensures { PlaceFits self.now }
     {
         match self {
-            Place::Vacant(link) => link.stands_law(),
+            Place::Empty(link) => link.stands_law(),
             Place::Talking(connection) => connection.fits_law(),
             Place::Moving => {}
         }
     }
 
     /// Begins a session of this caller over its link, by the answer to a SABM with this P bit at this moment.
-    pub(crate) fn begin(&mut self, caller: Call, poll: bool, moment: u32, lists: &Lists)
+    pub(crate) fn begin(&mut self, caller: Call, poll: bool, moment: Moment, lists: &Lists)
         requires { MayBegin self.old }
         ensures { HasBegun caller poll moment (has_left lists.now caller) self.old self.new }
     {
         match mem::replace(self, Place::Moving) {
-            Place::Vacant(link) => {
+            Place::Empty(link) => {
                 let connection = Connection::answer(link, caller, poll, moment, lists);
                 self.put(Place::Talking(connection));
             }
@@ -117,7 +117,7 @@ impl Place {
         store: &mut FileStore,
         lists: &mut Lists,
         frame: &Frame<'_>,
-        moment: u32,
+        moment: Moment,
     ) -> Result<(), DiskFault>
         requires may { MayHear store.old (value_of frame.now) self.old }
         requires ready { IsReady D.Disk store.old disk.old }
@@ -137,7 +137,7 @@ impl Place {
                 }
                 heard
             }
-            Place::Vacant(_) | Place::Moving => unreachable!(),
+            Place::Empty(_) | Place::Moving => unreachable!(),
         }
     }
 
@@ -155,7 +155,7 @@ impl Place {
                     self.leave(store);
                 }
             }
-            Place::Vacant(_) | Place::Moving => {}
+            Place::Empty(_) | Place::Moving => {}
         }
     }
 
@@ -168,7 +168,7 @@ impl Place {
             Place::Talking(connection) => {
                 let _link = connection.end(store);
             }
-            Place::Vacant(_) | Place::Moving => {}
+            Place::Empty(_) | Place::Moving => {}
         }
     }
 
@@ -180,9 +180,9 @@ impl Place {
         match mem::replace(self, Place::Moving) {
             Place::Talking(connection) => {
                 let link = connection.end(store);
-                self.put(Place::Vacant(link));
+                self.put(Place::Empty(link));
             }
-            Place::Vacant(_) | Place::Moving => unreachable!(),
+            Place::Empty(_) | Place::Moving => unreachable!(),
         }
     }
 
@@ -194,7 +194,7 @@ impl Place {
         match mem::replace(self, place) {
             Place::Moving => {}
             Place::Talking(_connection) => unreachable!(),
-            Place::Vacant(_) => unreachable!(),
+            Place::Empty(_) => unreachable!(),
         }
     }
 }

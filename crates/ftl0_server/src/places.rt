@@ -25,7 +25,7 @@ pub(crate) fn place_of(places: &[Place], caller: Call) -> Option<usize>
     places.iter().position(|place| place.has_caller(caller))
 }
 
-/// The lowest free place, if there is one.
+/// The lowest empty place, if there is one.
 pub(crate) fn empty_place(places: &[Place]) -> Option<usize>
     ensures { result ≡ position is_empty_place places.now }
 {

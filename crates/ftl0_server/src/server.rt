@@ -18,7 +18,7 @@ ghost use Rattle.ftl0_server.specs.Calls.{AwaitsEvent, AwaitsFrame, AwaitsStrang
 ghost use Rattle.ftl0_server.specs.Calls.{SameButLinks, SameStore, HearsEvent};
 ghost use Rattle.ftl0_server.specs.Server.{Server as ServerValue, called_by, hearing_stranger, new_server, refusing};
 ghost use Rattle.ftl0_server.specs.Server.{server_ticking, settled};
-ghost use Rattle.ftl0_server.specs.ServerState.{IsServer, SendsFor, all_vacant, has_caller, is_empty_place};
+ghost use Rattle.ftl0_server.specs.ServerState.{IsServer, SendsFor, new_places, has_caller, is_empty_place};
 ghost use Rattle.ftl0_server.specs.ServerState.{server_most, server_pending, sessions_in};
 ghost use Rattle.ftl0_server.specs.Slots.{first_empty};
 
@@ -34,7 +34,7 @@ use file_store::laws::{state_law, told_law};
 use file_store::{FileStore, Limits, StoreFault};
 use ftl0_session::lists::Lists;
 use packet_link::PacketLink;
-use px_base::Call;
+use px_base::{Call, Moment};
 use std::alloc::Global;
 use std::marker::Model;
 
@@ -108,7 +108,7 @@ impl Server {
         state_law(&store);
         told_law(&store, disk);
         let lists = new_lists(alloc)?;
-        let places = vacant_places(alloc, me, k)?;
+        let places = new_places(alloc, me, k)?;
         Ok(Server {
             me,
             k,
@@ -119,20 +119,20 @@ impl Server {
         })
     }
 
-    /// Hears a frame for this station without repeaters at this moment, in seconds since 1 January 1970, while nothing
+    /// Hears a frame for this station without repeaters at this moment, while nothing
     /// is pending. A frame of a connected caller is its connection's ([`Connection::hear`]). SABM of another station
-    /// begins a session at the lowest free place, or is refused by DM where there is none; any other command with P = 1
-    /// of such a station gets DM, and the rest is passed over (AX.25 2.0, 2.4.3). The commands of the frame's packets
-    /// are on the disk before any frame is given out. A read of the disk that fails is told by code 3, and the server
-    /// goes on. It costs the frame's octets, finding its sender among eight, what its packets cost the store, and the
-    /// octets of the files that it sends. Takes no memory.
+    /// begins a session at the lowest empty place, or is refused by DM where there is none; any other command with
+    /// P = 1 of such a station gets DM, and the rest is passed over (AX.25 2.0, 2.4.3). The commands of the frame's
+    /// packets are on the disk before any frame is given out. A read of the disk that fails is told by code 3, and the
+    /// server goes on. It costs the frame's octets, finding its sender among eight, what its packets cost the store,
+    /// and the octets of the files that it sends. Takes no memory.
     ///
     /// After a fault the frames that are pending are given out first, code 3 among them. Then the server is closed.
     pub fn hear<D: Disk>(
         &mut self,
         disk: &mut D,
         frame: &Frame<'_>,
-        moment: u32,
+        moment: Moment,
     ) -> Result<(), DiskFault>
         requires { AwaitsFrame D.Disk self.old disk.old (value_of frame.now) }
 
@@ -153,7 +153,7 @@ impl Server {
     /// Counts a tick on each link, while nothing is pending (AX.25 2.0, 2.4.7): a session is over whose caller doesn't
     /// answer any more. It frees no octets of a link, so nothing more of what is due is queued. So far a tick has
     /// nothing to do on the disk, and its moment makes no difference. It costs the eight places. Takes no memory.
-    pub fn tick<D: Disk>(&mut self, _disk: &mut D, _moment: u32) -> Result<(), DiskFault>
+    pub fn tick<D: Disk>(&mut self, _disk: &mut D, _moment: Moment) -> Result<(), DiskFault>
         requires { AwaitsEvent D.Disk self.old _disk.old }
         ensures ok { result ≡ Ok tt }
 
@@ -247,7 +247,7 @@ impl Server {
         place: usize,
         disk: &mut D,
         frame: &Frame<'_>,
-        moment: u32,
+        moment: Moment,
     ) -> Result<(), DiskFault>
         requires place { position (has_caller (value_of frame.now).src) self.old.places ≡ Some place }
         requires awaits { AwaitsFrame D.Disk self.old disk.old (value_of frame.now) }
@@ -259,7 +259,7 @@ impl Server {
     }
 
     /// Hears a frame of a station without a connection (AX.25 2.0, 2.4.3).
-    fn hear_stranger(&mut self, frame: &Frame<'_>, moment: u32)
+    fn hear_stranger(&mut self, frame: &Frame<'_>, moment: Moment)
         requires { AwaitsStranger self.old (value_of frame.now).src }
         ensures heard { HearsStranger (λ server. hearing_stranger server (value_of frame.now) moment)
             self.old self.new }
@@ -272,10 +272,10 @@ impl Server {
         }
     }
 
-    /// Answers a SABM with this P bit of a station without a connection: by a session at the lowest free place, whose
-    /// LOGIN_RESP says whether numbers are left in the station's list, or by DM where none is free (AX.25 2.0, 2.4.3.1;
-    /// FTL0 1990, LOGIN_RESP).
-    fn answer(&mut self, caller: Call, poll: bool, moment: u32)
+    /// Answers a SABM with this P bit of a station without a connection: by a session at the lowest empty place, whose
+    /// LOGIN_RESP says whether numbers are left in the station's list, or by DM where none is empty (AX.25 2.0,
+    /// 2.4.3.1; FTL0 1990, LOGIN_RESP).
+    fn answer(&mut self, caller: Call, poll: bool, moment: Moment)
         requires { AwaitsStranger self.old caller }
         ensures heard { HearsStranger (λ server. called_by server caller poll moment (first_empty server.slots))
             self.old self.new }
@@ -298,7 +298,7 @@ impl Server {
     }
 
     /// Begins a session at this place, which has none, of a caller that has none.
-    fn seat(&mut self, place: usize, caller: Call, poll: bool, moment: u32)
+    fn seat(&mut self, place: usize, caller: Call, poll: bool, moment: Moment)
         requires empty { position is_empty_place self.old.places ≡ Some place }
         requires awaits { AwaitsStranger self.old caller }
         ensures heard { HearsStranger (λ server. called_by server caller poll moment (Some place))
@@ -320,9 +320,9 @@ fn new_lists(alloc: Global) -> Result<Lists, StoreFault>
 }
 
 /// The places of a server without sessions, each with its link. Takes memory.
-fn vacant_places(alloc: Global, me: Call, k: u8) -> Result<[Place; PLACES], StoreFault>
+fn new_places(alloc: Global, me: Call, k: u8) -> Result<[Place; PLACES], StoreFault>
     requires { IsGoodK k }
-    ensures places { IfOk result (λ places. places ≡ all_vacant me k) }
+    ensures places { IfOk result (λ places. places ≡ new_places me k) }
     ensures memory { IfErr result (λ fault. fault ≡ StoreFault.OutOfMemory) }
 {
     let first = new_link(alloc, me, k)?;
@@ -334,14 +334,14 @@ fn vacant_places(alloc: Global, me: Call, k: u8) -> Result<[Place; PLACES], Stor
     let seventh = new_link(alloc, me, k)?;
     let eighth = new_link(alloc, me, k)?;
     Ok([
-        Place::Vacant(first),
-        Place::Vacant(second),
-        Place::Vacant(third),
-        Place::Vacant(fourth),
-        Place::Vacant(fifth),
-        Place::Vacant(sixth),
-        Place::Vacant(seventh),
-        Place::Vacant(eighth),
+        Place::Empty(first),
+        Place::Empty(second),
+        Place::Empty(third),
+        Place::Empty(fourth),
+        Place::Empty(fifth),
+        Place::Empty(sixth),
+        Place::Empty(seventh),
+        Place::Empty(eighth),
     ])
 }
 

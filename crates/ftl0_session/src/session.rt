@@ -31,7 +31,7 @@ use arrayvec::ArrayVec;
 use disk_model::{Disk, DiskFault};
 use file_store::FileStore;
 use ftl0_packets::{ErrorCode, Malformed, Packet, write_packet};
-use px_base::Call;
+use px_base::{Call, Moment};
 use std::marker::Model;
 
 /// LOGIN_RESP's flags: bit 2, file headers are in use. Bits 1 and 0 are the version, 0.
@@ -61,12 +61,12 @@ impl Session {
     /// The session of this caller, in the state Command, with LOGIN_RESP at this moment in place of what `replies`
     /// holds (FTL0 1990, LOGIN_RESP): bit 3 of its flags says whether the caller's selection has numbers left. Takes
     /// no memory.
-    pub fn new(caller: Call, moment: u32, lists: &Lists, replies: &mut Replies) -> Session
+    pub fn new(caller: Call, moment: Moment, lists: &Lists, replies: &mut Replies) -> Session
         ensures session { result ≡ new_session caller }
         ensures text { replies.new.items ≡ packet_text (greeting moment (has_left lists.now caller)) }
     {
         let greeting = Packet::LoginResp {
-            moment,
+            moment: moment.get(),
             flags: flags_of(lists.left(caller)),
         };
         write_packet(&greeting, replies);
@@ -93,7 +93,7 @@ impl Session {
         &mut self,
         disk: &mut D,
         packet: Result<Packet<'_>, Malformed>,
-        moment: u32,
+        moment: Moment,
         store: &mut FileStore,
         lists: &mut Lists,
         replies: &mut Replies,
@@ -177,7 +177,7 @@ fn take_packet<D: Disk>(
     downloads: &mut Downloads,
     disk: &mut D,
     packet: Result<Packet<'_>, Malformed>,
-    moment: u32,
+    moment: Moment,
     store: &mut FileStore,
     lists: &mut Lists,
     replies: &mut Replies,
@@ -211,7 +211,7 @@ fn take_upload<D: Disk>(
     uploads: &mut Uploads,
     disk: &mut D,
     packet: Result<Packet<'_>, Malformed>,
-    moment: u32,
+    moment: Moment,
     store: &mut FileStore,
     lists: &Lists,
     replies: &mut Replies,

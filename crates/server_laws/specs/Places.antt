@@ -54,7 +54,7 @@ pub record ChangesAt (old : Server) (place : ℕ) (slot : Slot) (gives : Stepped
   pub slots_are : gives.new.slots ≡ all_freed (slice_set old.slots place now)
 
 -- So of a frame. One of a station that has a connection changes that one's place alone; SABM of any other station that
--- of the lowest free place, where one is; any other frame changes none, and is passed over, or replied by DM.
+-- of the lowest empty place, where one is; any other frame changes none, and is passed over, or replied by DM.
 pub record HearsByPlaces (old : Server) (frame : FrameValue) (moment : ℕ) (failures : List Failure) (gives : Stepped) :
     Type 0 where
   pub heard :

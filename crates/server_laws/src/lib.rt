@@ -31,7 +31,7 @@ pub fn some_step_law()
 }
 
 /// A step of a server goes by places: what is sent is the DM to a station without a connection, where one is, and then
-/// what each place's end drains, in order. A frame changes its sender's place alone, or that of the lowest free place
+/// what each place's end drains, in order. A frame changes its sender's place alone, or that of the lowest empty place
 /// where it opens a connection; all others are as they were.
 pub fn step_law()
     ensures { StepLaw }

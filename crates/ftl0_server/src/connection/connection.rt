@@ -36,7 +36,7 @@ use file_store::FileStore;
 use ftl0_session::lists::Lists;
 use ftl0_session::{Replies, Session};
 use packet_link::PacketLink;
-use px_base::Call;
+use px_base::{Call, Moment};
 use std::marker::Model;
 use std::mem;
 
@@ -71,7 +71,7 @@ impl Connection {
         link: PacketLink,
         caller: Call,
         poll: bool,
-        moment: u32,
+        moment: Moment,
         lists: &Lists,
     ) -> Connection
         requires down { link.link.state ≡ LinkState.Down }
@@ -97,7 +97,7 @@ impl Connection {
         store: &mut FileStore,
         lists: &mut Lists,
         frame: &Frame<'_>,
-        moment: u32,
+        moment: Moment,
     ) -> Told
         requires { MayHear D.Disk store.old disk.old lists.old self.old (value_of frame.now) }
 
@@ -189,7 +189,7 @@ impl Connection {
         store: &mut FileStore,
         lists: &mut Lists,
         frame: &Frame<'_>,
-        moment: u32,
+        moment: Moment,
     ) -> Told
         requires { MayHear D.Disk store.old disk.old lists.old self.old (value_of frame.now) }
         ensures hears { HearsFrameParts D.Disk moment (value_of frame.now)
@@ -245,7 +245,7 @@ impl Connection {
     }
 
     /// Ends the session, which parks its upload, and begins a new one over the link, which begins anew.
-    fn begin_anew(&mut self, store: &mut FileStore, lists: &Lists, moment: u32)
+    fn begin_anew(&mut self, store: &mut FileStore, lists: &Lists, moment: Moment)
         requires up { self.old.link.state ≡ LinkState.Up }
         requires held { IsHeld store.old self.old.session.uploads }
         requires only { IsOnlyOut store.old self.old.session.uploads }
@@ -273,7 +273,7 @@ fn take_packets<D: Disk>(
     store: &mut FileStore,
     lists: &mut Lists,
     octets: &[u8],
-    moment: u32,
+    moment: Moment,
 ) -> Told
     requires { MayTake D.Disk store.old disk.old lists.old link.old.link session.old }
     ensures feeds { FeedsAll D.Disk moment (carrying link.old.link (octets_in link.old ++ octets.now) session.old)
@@ -301,7 +301,7 @@ fn answer<D: Disk>(
     disk: &mut D,
     store: &mut FileStore,
     lists: &mut Lists,
-    moment: u32,
+    moment: Moment,
 ) -> Told
     requires whole { IsTrue (is_whole link.old.reader) }
     requires may { MayTake D.Disk store.old disk.old lists.old link.old.link session.old }
@@ -330,7 +330,7 @@ fn goes_on(told: &Told) -> bool
 }
 
 /// The session of this caller, whose LOGIN_RESP at this moment is queued on the link.
-fn greet(link: &mut PacketLink, caller: Call, moment: u32, lists: &Lists) -> Session
+fn greet(link: &mut PacketLink, caller: Call, moment: Moment, lists: &Lists) -> Session
     requires { link.old.link.state ≡ LinkState.Up }
     ensures session { result ≡ new_session caller }
     ensures queued { Steps link.old.link link.new.link (λ w end. greeted end moment (has_left lists.now caller)) }

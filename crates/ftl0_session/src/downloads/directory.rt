@@ -13,6 +13,7 @@ use arrayvec::ArrayVec;
 use disk_model::Disk;
 use file_store::{FileStore, HeaderFault, header_in};
 use pfh_writer::short_form;
+use px_base::FileNumber;
 
 /// The length of a short form in octets.
 pub(crate) const SHORT_LEN: usize = 73;
@@ -36,7 +37,7 @@ pub(crate) fn read_short_forms<D: Disk>(
 {
     forms.clear();
     for number in numbers {
-        let form = read_short_form(disk, store, *number)?;
+        let form = read_short_form(disk, store, FileNumber::new(*number))?;
         forms.try_extend_from_slice(&form).unwrap();
     }
     Ok(())
@@ -46,7 +47,7 @@ pub(crate) fn read_short_forms<D: Disk>(
 fn read_short_form<D: Disk>(
     disk: &mut D,
     store: &mut FileStore,
-    number: u32,
+    number: FileNumber,
 ) -> Result<[u8; SHORT_LEN], HeaderFault>
     requires { MayRead D.Disk store.old disk.old number }
     ensures form { IfOk result (λ form. IsKnown D.Disk disk.old
@@ -73,13 +74,17 @@ pub(crate) fn read_spans_of_headers<D: Disk>(
 {
     let mut spans = ArrayVec::new();
     for number in numbers {
-        spans.push(read_span(disk, store, *number)?);
+        spans.push(read_span(disk, store, FileNumber::new(*number))?);
     }
     Ok(spans)
 }
 
 /// Reads the header of a complete file, and gives where it lies.
-fn read_span<D: Disk>(disk: &mut D, store: &mut FileStore, number: u32) -> Result<Span, HeaderFault>
+fn read_span<D: Disk>(
+    disk: &mut D,
+    store: &mut FileStore,
+    number: FileNumber,
+) -> Result<Span, HeaderFault>
     requires { MayRead D.Disk store.old disk.old number }
     ensures span { IfOk result (λ span. IsKnown D.Disk disk.old
         → due_of span ≡ header_due (store_on D.Disk store.old disk.old) number) }

@@ -34,7 +34,7 @@ use arrayvec::ArrayVec;
 use disk_model::{Disk, DiskFault};
 use file_store::{FileStore, HeaderFault};
 use ftl0_packets::{ErrorCode, Packet, write_packet};
-use px_base::Call;
+use px_base::{Call, FileNumber};
 use selection::Selection;
 use std::marker::Model;
 
@@ -433,13 +433,13 @@ fn asked_span(
 
 /// The file that a DOWNLOAD_CMD with this number asks for: for number 0 the first one that is left in the caller's
 /// list.
-fn first_asked(number: u32, caller: Call, lists: &Lists) -> Option<u32>
+fn first_asked(number: u32, caller: Call, lists: &Lists) -> Option<FileNumber>
     ensures { result ≡ asked_file lists.now caller number }
 {
     if number == 0 {
-        lists.numbers(caller).first().copied()
+        lists.numbers(caller).first().copied().map(FileNumber::new)
     } else {
-        Some(number)
+        Some(FileNumber::new(number))
     }
 }
 
@@ -461,7 +461,7 @@ fn files_to_list(number: u32, caller: Call, lists: &Lists) -> ArrayVec<u32, MOST
 }
 
 /// The length of the complete file of this number, if there is one.
-fn length_of(store: &FileStore, number: u32) -> Option<u32>
+fn length_of(store: &FileStore, number: FileNumber) -> Option<u32>
     ensures { result ≡ option_map length (file_of (store_in store.now) number) }
 {
     match store.info(number) {
@@ -474,9 +474,7 @@ fn length_of(store: &FileStore, number: u32) -> Option<u32>
 fn are_files(store: &FileStore, numbers: &[u32]) -> bool
     ensures { result ≡ list_all (has_file (store_in store.now)) numbers.now }
 {
-    numbers
-        .iter()
-        .all(|number| length_of(store, *number).is_some())
+    numbers.iter().all(|number| length_of(store, FileNumber::new(*number)).is_some())
 }
 
 /// A command with this number takes so many numbers from the front of the caller's list: only one with number 0 does.

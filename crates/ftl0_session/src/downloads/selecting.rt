@@ -14,6 +14,7 @@ use arrayvec::ArrayVec;
 use disk_model::Disk;
 use file_store::laws::state_law;
 use file_store::{FileStore, HeaderFault, header_in};
+use px_base::FileNumber;
 use selection::Selection;
 
 /// The numbers of a caller's list.
@@ -36,11 +37,11 @@ pub(crate) fn chosen_files<D: Disk>(
     // The entries' numbers rise, and there are at most 1,024.
     state_law(store);
     let mut numbers = ArrayVec::new();
-    let mut above = 0;
+    let mut above = FileNumber::new(0);
     while let Some(number) = store.numbers(above) {
         let holds = is_chosen(disk, store, number, selection)?;
         if holds {
-            numbers.push(number);
+            numbers.push(number.get());
         }
         above = number;
     }
@@ -51,7 +52,7 @@ pub(crate) fn chosen_files<D: Disk>(
 fn is_chosen<D: Disk>(
     disk: &mut D,
     store: &mut FileStore,
-    number: u32,
+    number: FileNumber,
     selection: &Selection,
 ) -> Result<bool, HeaderFault>
     requires { MayRead D.Disk store.old disk.old number }

@@ -11,6 +11,7 @@ ghost use Rattle.ftl0_session.specs.Downloads.Spans.{due_of};
 use arrayvec::ArrayVec;
 use disk_model::{Disk, DiskFault};
 use file_store::FileStore;
+use px_base::FileNumber;
 
 /// How many octets a DATA has at most.
 pub(crate) const MOST_DATA: usize = 254;
@@ -25,11 +26,21 @@ pub(crate) type Part = ArrayVec<u8, MOST_DATA>;
 pub(crate) type Spans = ArrayVec<Span, MOST_LISTED>;
 
 /// The octets of the complete file of this number from one place up to another.
-#[derive(Clone, Copy, Default)]
+#[derive(Clone, Copy)]
 pub(crate) struct Span {
-    pub(crate) number: u32,
+    pub(crate) number: FileNumber,
     pub(crate) place: u32,
     pub(crate) last: u32,
+}
+
+impl Default for Span {
+    fn default() -> Span {
+        Span {
+            number: FileNumber::new(0),
+            place: 0,
+            last: 0,
+        }
+    }
 }
 
 impl Span {

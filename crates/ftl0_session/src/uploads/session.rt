@@ -28,7 +28,7 @@ use file_store::{
     AppendRefusal, BeginRefusal, FileStore, OpenUpload, Receipt, ResumeRefusal, SealRefusal,
 };
 use ftl0_packets::{ErrorCode, Malformed, Packet, write_packet};
-use px_base::Call;
+use px_base::{Call, FileNumber, Moment};
 use std::marker::Model;
 use std::mem;
 
@@ -84,7 +84,7 @@ impl Session {
         &mut self,
         disk: &mut D,
         packet: Result<Packet<'_>, Malformed>,
-        moment: u32,
+        moment: Moment,
         store: &mut FileStore,
         replies: &mut Replies,
     ) -> Result<(), DiskFault>
@@ -146,7 +146,7 @@ impl Session {
         disk: &mut D,
         phase: Phase,
         asked: Asked<'_>,
-        moment: u32,
+        moment: Moment,
         store: &mut FileStore,
         replies: &mut Replies,
     ) -> Taken
@@ -168,7 +168,7 @@ impl Session {
         disk: &mut D,
         up: OpenUpload,
         asked: Asked<'_>,
-        moment: u32,
+        moment: Moment,
         store: &mut FileStore,
         replies: &mut Replies,
     ) -> Taken
@@ -189,7 +189,7 @@ impl Session {
         &self,
         disk: &mut D,
         up: OpenUpload,
-        moment: u32,
+        moment: Moment,
         store: &mut FileStore,
         replies: &mut Replies,
     ) -> Taken
@@ -230,7 +230,7 @@ fn take_command<D: Disk>(
     disk: &mut D,
     caller: Call,
     asked: Asked<'_>,
-    moment: u32,
+    moment: Moment,
     store: &mut FileStore,
     replies: &mut Replies,
 ) -> Taken
@@ -240,7 +240,10 @@ fn take_command<D: Disk>(
 {
     match asked {
         Asked::Upload { number: 0, length } => begin(disk, caller, length, moment, store, replies),
-        Asked::Upload { number, length } => resume(caller, number, length, store, replies),
+        Asked::Upload { number, length } => {
+            let number = FileNumber::new(number);
+            resume(caller, number, length, store, replies)
+        }
         _ => refuse(Phase::Command, ErrorCode::IllFormedCmd, replies),
     }
 }
@@ -250,7 +253,7 @@ fn begin<D: Disk>(
     disk: &mut D,
     caller: Call,
     length: u32,
-    moment: u32,
+    moment: Moment,
     store: &mut FileStore,
     replies: &mut Replies,
 ) -> Taken
@@ -293,7 +296,7 @@ fn refuse_begin(refusal: BeginRefusal, replies: &mut Replies) -> Result<(), Disk
 /// Goes on with a file that was begun before.
 fn resume(
     caller: Call,
-    number: u32,
+    number: FileNumber,
     length: u32,
     store: &mut FileStore,
     replies: &mut Replies,
@@ -317,10 +320,14 @@ fn resume(
 }
 
 /// Lets the octets of the file of this number come, from this place on.
-fn go_on(number: u32, offset: u32, replies: &mut Replies)
+fn go_on(number: FileNumber, offset: u32, replies: &mut Replies)
     ensures { replies.new.items ≡ texts (ul_go_resp number offset ∷ []) }
 {
-    write_packet(&Packet::UlGoResp { number, offset }, replies);
+    let granted = Packet::UlGoResp {
+        number: number.get(),
+        offset,
+    };
+    write_packet(&granted, replies);
 }
 
 /// Refuses a packet with this code. The phase stays.

@@ -1,4 +1,4 @@
--- A session begins at the lowest free place, or the station is refused.
+-- A session begins at the lowest empty place, or the station is refused.
 use Rattle.std.proofs.Common.{ℕ, Option, subst, sym, ◌∙◌}
 use Rattle.ftl0_server.proofs.Names.{server_state, called_by, IsServer}
 use Rattle.ftl0_server.proofs.HearLemmas.{same-first_empty}

@@ -10,8 +10,9 @@ read_short_form-requires g c =
     record {
       ready = stays.ready;
       complete =
-          subst (λ (s : StoreState). IsCompleteIn (store_in s) (get_or c.args.numbers.now c.loop-number.number-index 0)) (sym stays.same)
-          (c.requires.complete c.loop-number.number-index 0 c.loop-number-test.true);
+          subst (λ (s : StoreState). IsCompleteIn (store_in s) c.new.result) (sym stays.same)
+          (subst (λ (n : ℕ). IsCompleteIn (store_in c.args.store.now) n) (sym c.new.ensures)
+          (c.requires.complete c.loop-number.number-index 0 c.loop-number-test.true));
     }
 
 pub loop-number-preserved : goal.loop-number-preserved
@@ -28,6 +29,7 @@ loop-number-preserved g c =
       forms = λ known.
           let here : form ≡ short_octets (octets_in files (get_or numbers i 0)) =
           c.in_ok-form.ensures.form (known-then g.D.Disk ⊥ c.args.store.now c.loop-number.store c.args.disk.now c.loop-number.disk inv.reads known)
+          ∙ ap (λ (n : ℕ). short_octets (octets_in (store_on g.D.Disk c.loop-number.store c.loop-number.disk) n)) c.new.ensures
           ∙ ap (λ (s : Store). short_octets (octets_in s (get_or numbers i 0))) (files-then g.D.Disk ⊥ c.args.store.now c.loop-number.store c.args.disk.now c.loop-number.disk inv.reads) in
           ext ∙ flat-more (λ number. short_octets (octets_in files number)) numbers i forms form c.loop-number-test.true (inv.forms known) here;
       count = omega (arith, inv.count, long, ap (λ l. length l) ext, length-append forms form);

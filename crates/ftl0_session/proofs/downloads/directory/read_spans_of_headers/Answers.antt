@@ -1,4 +1,4 @@
-use Rattle.std.proofs.Common.{◌≡◌, ◌++◌, ◌∷◌, [], List, get_or, length, map, sym, ◌∙◌, ap, subst, arith, length-append}
+use Rattle.std.proofs.Common.{◌≡◌, ◌++◌, ◌∷◌, [], ℕ, List, get_or, length, map, sym, ◌∙◌, ap, subst, arith, length-append}
 use Rattle.ftl0_session.proofs.Names.{IsCompleteIn, StoreState, store_in, store_on, Store, AreStored, LiesIn, due_of, header_due, Span}
 use Rattle.ftl0_session.proofs.downloads.DueLemmas.{map-more, stored-more}
 use Rattle.ftl0_session.proofs.downloads.ReadsLemmas.{files-then, known-then, one-more}
@@ -10,8 +10,9 @@ read_span-requires g c =
     record {
       ready = stays.ready;
       complete =
-          subst (λ (s : StoreState). IsCompleteIn (store_in s) (get_or c.args.numbers.now c.loop-number.number-index 0)) (sym stays.same)
-          (c.requires.complete c.loop-number.number-index 0 c.loop-number-test.true);
+          subst (λ (s : StoreState). IsCompleteIn (store_in s) c.new.result) (sym stays.same)
+          (subst (λ (n : ℕ). IsCompleteIn (store_in c.args.store.now) n) (sym c.new.ensures)
+          (c.requires.complete c.loop-number.number-index 0 c.loop-number-test.true));
     }
 
 pub loop-number-preserved : goal.loop-number-preserved
@@ -28,6 +29,7 @@ loop-number-preserved g c =
       spans = λ known.
           let here : due_of span ≡ header_due files (get_or numbers i 0) =
           c.in_ok-read_span.ensures.span (known-then g.D.Disk ⊥ store c.loop-number.store c.args.disk.now c.loop-number.disk inv.reads known)
+          ∙ ap (λ (n : ℕ). header_due (store_on g.D.Disk c.loop-number.store c.loop-number.disk) n) c.new.ensures
           ∙ ap (λ (s : Store). header_due s (get_or numbers i 0)) (files-then g.D.Disk ⊥ store c.loop-number.store c.args.disk.now c.loop-number.disk inv.reads) in
           ap (λ (l : List Span). map due_of l) pushed ∙ map-more (header_due files) due_of numbers i spans span c.loop-number-test.true (inv.spans known) here;
       within =

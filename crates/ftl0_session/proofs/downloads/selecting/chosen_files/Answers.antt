@@ -17,10 +17,11 @@ loop-numbers-init g c =
     let tree = tree_of c.args.selection.now in
     record {
       numbers = λ known.
-          ap (λ (l : List ℕ). l ++ chosen tree (above_of 0 (store_on D store disk).entries)) c.new-numbers.ensures
+          ap (λ (n : ℕ). c.new-numbers.result.items ++ chosen tree (above_of n (store_on D store disk).entries)) c.new-above.ensures
+          ∙ ap (λ (l : List ℕ). l ++ chosen tree (above_of 0 (store_on D store disk).entries)) c.new-numbers.ensures
           ∙ chosen-start (store_on D store disk) (on_rules D store disk c.requires known c.state_law.ensures.rules) tree;
       complete = subst (λ (l : List ℕ). AreFiles (store_in store) l) (sym c.new-numbers.ensures) (All-nil _);
-      room = omega (arith, ap (λ (l : List ℕ). length l) c.new-numbers.ensures, above-few 0 (store_in store).entries);
+      room = omega (arith, ap (λ (l : List ℕ). length l) c.new-numbers.ensures, above-few c.new-above.result (store_in store).entries);
       rules = c.state_law.ensures.rules;
       reads = none-yet D store disk c.requires (g.met.D.Disk.lasts_same disk);
       selection = refl;
@@ -62,18 +63,19 @@ loop-numbers-preserved-then-holds g c =
     let next = c.in-Some.number in
     let numbers = c.loop-numbers.numbers.items in
     let least = subst (λ (s : StoreState). IsNextComplete (store_in s) above (Some next)) inv.reads.stays.same c.in-Some.ensures in
+    let pushed : c.push.new.self.items ≡ numbers ++ next ∷ [] = c.push.ensures.items ∙ ap (λ (n : ℕ). numbers ++ n ∷ []) c.get.ensures in
     record {
       numbers = λ known.
           let is : true ≡ holds tree (header_items (octets_in files next)) =
           sym c.if-holds.true ∙ c.in_ok-holds.ensures.holds (known-then D ⊥ store c.loop-numbers.store disk c.loop-numbers.disk inv.reads known)
           ∙ ap (λ (s : Store). holds tree (header_items (octets_in s next))) (files-then D ⊥ store c.loop-numbers.store disk c.loop-numbers.disk inv.reads) in
-          ap (λ (l : List ℕ). l ++ chosen tree (above_of next files.entries)) c.push.ensures.items
+          ap (λ (l : List ℕ). l ++ chosen tree (above_of next files.entries)) pushed
           ∙ chosen-step files (on_rules D store disk c.requires known inv.rules) tree above next numbers true
           (like_next (store_in store) files (on_like D store disk c.requires known) above (Some next) least) is (inv.numbers known);
       complete =
-          subst (λ (l : List ℕ). AreFiles (store_in store) l) (sym c.push.ensures.items)
+          subst (λ (l : List ℕ). AreFiles (store_in store) l) (sym pushed)
           (All-append (IsCompleteIn (store_in store)) numbers (next ∷ []) inv.complete (All-cons (IsCompleteIn (store_in store)) next [] least.1 (All-nil _)));
-      room = omega (arith, inv.room, above-fewer (store_in store) above next least, ap (λ (l : List ℕ). length l) c.push.ensures.items, length-append numbers (next ∷ []));
+      room = omega (arith, inv.room, above-fewer (store_in store) above next least, ap (λ (l : List ℕ). length l) pushed, length-append numbers (next ∷ []));
       rules = inv.rules;
       reads = one-more D g.met.D.Disk.lasts_on _ (λ is. cc is) _ _ _ _ _ _ inv.reads c.in_ok-holds.ensures.reads;
       selection = refl;

@@ -9,9 +9,10 @@ use Rattle.ftl0_session.proofs.uploads.session.take_command.Goals as goal
 pub returns-in-Upload : goal.returns-in-Upload
 returns-in-Upload g c = λ item is.
     let same = rw c.in-Upload.is at is in
+    let resumed = rw c.new-number.ensures at (c.resume.ensures c.args.moment) in
     rw same
     (answered-alone g.D.Disk (packet_of c.args.caller c.args.moment (Ok (upload_cmd c.in-Upload.number c.in-Upload.length))) command c.args.store.now c.args.disk.now c.requires.ready c.resume.new.store _ _
-    (g.met.D.Disk.lasts_same c.args.disk.now) (c.resume.ensures c.args.moment))
+    (g.met.D.Disk.lasts_same c.args.disk.now) resumed)
 
 pub returns-in_default : goal.returns-in_default
 returns-in_default g c = λ item is.
