@@ -1,24 +1,27 @@
 //! The answers of the notes.
 
+use crate::TaskNumber;
+use px_base::FileNumber;
+
 /// What a start found, or noted.
 #[derive(Clone, Copy, Debug, PartialEq, Eq)]
 pub enum Begun {
     /// A fresh task was noted.
     Fresh {
         /// The task.
-        task: u32,
+        task: TaskNumber,
     },
     /// The same file was acknowledged before.
     Already {
         /// Its number on the server.
-        number: u32,
+        number: FileNumber,
     },
     /// The same file is under way.
     Going {
         /// The task.
-        task: u32,
+        task: TaskNumber,
         /// Its number on the server; 0 where none is known.
-        number: u32,
+        number: FileNumber,
     },
 }
 
@@ -28,21 +31,21 @@ pub enum Noted {
     /// It is unfinished.
     Going {
         /// The task.
-        task: u32,
+        task: TaskNumber,
         /// Its number on the server; 0 where none is known.
-        number: u32,
+        number: FileNumber,
     },
     /// The server acknowledged it.
     Acked {
         /// The task.
-        task: u32,
+        task: TaskNumber,
         /// Its number on the server.
-        number: u32,
+        number: FileNumber,
     },
     /// The server refused it.
     Refused {
         /// The task.
-        task: u32,
+        task: TaskNumber,
         /// The server's code (FTL0 1990, error codes).
         code: u8,
     },

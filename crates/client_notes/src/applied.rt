@@ -8,12 +8,12 @@ ghost use Rattle.client_notes.specs.Limits.{most_tasks};
 ghost use Rattle.client_notes.specs.Notes.{task_count, task_of};
 ghost use Rattle.client_notes.specs.Records.{IsWritable};
 
-use crate::Progress;
 use crate::command::Command;
 use crate::limits::{LONGEST_FILE, LONGEST_NAME, MOST_GOT, MOST_TASKS};
 use crate::lists::Lists;
 use crate::task::StoredTask;
-use px_base::{Call, OutOfMemory};
+use crate::{Progress, TaskNumber};
+use px_base::{Call, FileNumber, OutOfMemory};
 
 impl Lists {
     /// Applies a command that was read from a record: whether its condition holds. One whose condition doesn't hold
@@ -71,7 +71,12 @@ impl Lists {
     }
 
     /// Octets of a file are got, or nothing changes where there is no memory. Takes memory.
-    fn make_got(&mut self, server: Call, number: u32, octets: &[u8]) -> Result<(), OutOfMemory>
+    fn make_got(
+        &mut self,
+        server: Call,
+        number: FileNumber,
+        octets: &[u8],
+    ) -> Result<(), OutOfMemory>
         requires { IsTrue (is_allowed self.old (got server number octets.now)) }
         ensures ok { OnOk result (self.new ≡ after self.old (got server number octets.now)) }
         ensures err { OnErr result (self.new ≡ self.old) }
@@ -86,7 +91,7 @@ impl Lists {
     {
         match command {
             Command::Start { task, name, .. } => self.allows_start(*task, name),
-            Command::Numbered { task, number } => self.allows_numbered(*task) && *number > 0,
+            Command::Numbered { task, number } => self.allows_numbered(*task) && number.get() > 0,
             Command::Acked { task } => self.allows_acked(*task),
             Command::Refused { task, .. } => self.allows_refused(*task),
             Command::Got {
@@ -99,37 +104,37 @@ impl Lists {
     }
 
     /// Whether a task of this number and name may be begun.
-    fn allows_start(&self, task: u32, name: &[u8]) -> bool
+    fn allows_start(&self, task: TaskNumber, name: &[u8]) -> bool
         ensures { result ≡ (task == task_count self.now + 1) && nat_le task most_tasks && is_name name.now }
     {
-        task == self.task_count() + 1
-            && task <= MOST_TASKS
+        task.get() == self.task_count() + 1
+            && task.get() <= MOST_TASKS
             && !name.is_empty()
             && name.len() <= LONGEST_NAME
     }
 
     /// Whether the task is unfinished and has no number.
-    fn allows_numbered(&self, task: u32) -> bool
+    fn allows_numbered(&self, task: TaskNumber) -> bool
         ensures { result ≡ passes is_unnumbered (task_of self.now task) }
     {
         match self.task(task) {
-            Some(task) => is_going(task.progress()) && task.number() == 0,
+            Some(task) => is_going(task.progress()) && task.number().get() == 0,
             None => false,
         }
     }
 
     /// Whether the task is unfinished and has a number.
-    fn allows_acked(&self, task: u32) -> bool
+    fn allows_acked(&self, task: TaskNumber) -> bool
         ensures { result ≡ passes is_numbered (task_of self.now task) }
     {
         match self.task(task) {
-            Some(task) => is_going(task.progress()) && task.number() > 0,
+            Some(task) => is_going(task.progress()) && task.number().get() > 0,
             None => false,
         }
     }
 
     /// Whether the task is unfinished.
-    fn allows_refused(&self, task: u32) -> bool
+    fn allows_refused(&self, task: TaskNumber) -> bool
         ensures { result ≡ passes (λ t. is_unfinished t.progress) (task_of self.now task) }
     {
         match self.task(task) {
@@ -139,10 +144,10 @@ impl Lists {
     }
 
     /// Whether these octets of the file of this number of this server may be got.
-    fn allows_got(&self, server: Call, number: u32, octets: &[u8]) -> bool
+    fn allows_got(&self, server: Call, number: FileNumber, octets: &[u8]) -> bool
         ensures { result ≡ is_allowed self.now (got server number octets.now) }
     {
-        number > 0
+        number.get() > 0
             && !octets.is_empty()
             && octets.len() <= MOST_GOT
             && self.got(server, number).len() + octets.len() <= LONGEST_FILE as usize

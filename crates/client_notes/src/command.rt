@@ -5,17 +5,18 @@ ghost use Rattle.file_journal.specs.Records.{record_of};
 ghost use Rattle.client_notes.specs.Commands.{IsReadAs, command_value};
 ghost use Rattle.client_notes.specs.Records.{IsWritable, command_of, record_of_command};
 
+use crate::TaskNumber;
 use crate::reading::{read_acked, read_forgot, read_got, read_numbered, read_refused, read_start};
 use crate::writing::{put_acked, put_forgot, put_got, put_numbered, put_refused, put_start};
 use file_journal::RecordContent;
-use px_base::Call;
+use px_base::{Call, FileNumber};
 
 /// A command that changes notes.
 #[derive(Clone, Copy)]
 pub(crate) enum Command<'a> {
     /// A task is begun.
     Start {
-        task: u32,
+        task: TaskNumber,
         server: Call,
         caller: Call,
         /// 1 to 64 octets.
@@ -26,29 +27,29 @@ pub(crate) enum Command<'a> {
     },
     /// The task's file has this number on the server.
     Numbered {
-        task: u32,
-        number: u32,
+        task: TaskNumber,
+        number: FileNumber,
     },
     /// The task's file was acknowledged.
     Acked {
-        task: u32,
+        task: TaskNumber,
     },
     /// The task's file was refused.
     Refused {
-        task: u32,
+        task: TaskNumber,
         code: u8,
     },
     /// Octets of a file were got.
     Got {
         server: Call,
-        number: u32,
+        number: FileNumber,
         /// 1 to 512 octets.
         octets: &'a [u8],
     },
     /// What was got of a file is given up.
     Forgot {
         server: Call,
-        number: u32,
+        number: FileNumber,
     },
 }
 

@@ -19,6 +19,7 @@ mod progress;
 mod reading;
 mod refusals;
 mod task;
+mod task_number;
 mod writing;
 
 pub use answers::{Begun, Noted};
@@ -27,3 +28,4 @@ pub use limits::{LONGEST_FILE, LONGEST_NAME, MOST_GOT, MOST_TASKS};
 pub use notes::Notes;
 pub use progress::Progress;
 pub use refusals::NotesRefusal;
+pub use task_number::TaskNumber;

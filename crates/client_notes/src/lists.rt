@@ -12,8 +12,8 @@ ghost use Rattle.client_notes.specs.Notes.{got_of, is_file_of, is_of_file, last_
 
 use crate::limits::{LONGEST_FILE, MOST_TASKS};
 use crate::task::{StoredGot, StoredTask};
-use crate::{Begun, Noted, NotesRefusal, Progress};
-use px_base::{Call, OutOfMemory};
+use crate::{Begun, Noted, NotesRefusal, Progress, TaskNumber};
+use px_base::{Call, FileNumber, OutOfMemory};
 use std::alloc::Global;
 use std::marker::Model;
 
@@ -67,13 +67,13 @@ impl Lists {
     }
 
     /// The task of this number.
-    pub(crate) fn task(&self, task: u32) -> Option<&StoredTask>
+    pub(crate) fn task(&self, task: TaskNumber) -> Option<&StoredTask>
         ensures { option_copied result ≡ task_of self.now task }
     {
-        if task == 0 {
+        if task.get() == 0 {
             return None;
         }
-        self.tasks.get(task as usize - 1)
+        self.tasks.get(task.get() as usize - 1)
     }
 
     /// The place of the last task of this server, caller and name, counted from the end.
@@ -88,11 +88,11 @@ impl Lists {
     }
 
     /// The number of the last task of this server, caller and name.
-    fn last_task(&self, server: Call, caller: Call, name: &[u8]) -> Option<u32>
+    fn last_task(&self, server: Call, caller: Call, name: &[u8]) -> Option<TaskNumber>
         ensures { result ≡ number_of_last_task self.now server caller name.now }
     {
         match self.place_from_end(server, caller, name) {
-            Some(place) => Some((self.tasks.len() - place) as u32),
+            Some(place) => Some(TaskNumber::new((self.tasks.len() - place) as u32)),
             None => None,
         }
     }
@@ -107,7 +107,7 @@ impl Lists {
     }
 
     /// How the task of this number stands.
-    pub(crate) fn noted_task(&self, task: u32) -> Option<Noted>
+    pub(crate) fn noted_task(&self, task: TaskNumber) -> Option<Noted>
         ensures { result ≡ noted_at self.now task }
     {
         Some(noted_as(task, self.task(task)?))
@@ -152,31 +152,31 @@ impl Lists {
     }
 
     /// The task has this number on the server.
-    pub(crate) fn set_number(&mut self, task: u32, number: u32)
+    pub(crate) fn set_number(&mut self, task: TaskNumber, number: FileNumber)
         requires { IsTrue (is_allowed self.old (numbered task number)) }
         ensures { self.new ≡ after self.old (numbered task number) }
     {
-        self.tasks[task as usize - 1].set_number(number);
+        self.tasks[task.get() as usize - 1].set_number(number);
     }
 
     /// The task is acknowledged.
-    pub(crate) fn ack(&mut self, task: u32)
+    pub(crate) fn ack(&mut self, task: TaskNumber)
         requires { IsTrue (is_allowed self.old (acked task)) }
         ensures { self.new ≡ after self.old (acked task) }
     {
-        self.tasks[task as usize - 1].set_progress(Progress::Acked);
+        self.tasks[task.get() as usize - 1].set_progress(Progress::Acked);
     }
 
     /// The task is refused.
-    pub(crate) fn refuse(&mut self, task: u32, code: u8)
+    pub(crate) fn refuse(&mut self, task: TaskNumber, code: u8)
         requires { IsTrue (is_allowed self.old (refused task code)) }
         ensures { self.new ≡ after self.old (refused task code) }
     {
-        self.tasks[task as usize - 1].set_progress(Progress::Refused { code });
+        self.tasks[task.get() as usize - 1].set_progress(Progress::Refused { code });
     }
 
     /// The octets got of the file of this number of this server.
-    pub(crate) fn got(&self, server: Call, number: u32) -> &[u8]
+    pub(crate) fn got(&self, server: Call, number: FileNumber) -> &[u8]
         ensures octets { result.now ≡ got_of self.now server number }
         ensures fits { length result.now ≤ longest_file }
     {
@@ -187,14 +187,14 @@ impl Lists {
     }
 
     /// The file of this number of this server.
-    fn got_file(&self, server: Call, number: u32) -> Option<&StoredGot>
+    fn got_file(&self, server: Call, number: FileNumber) -> Option<&StoredGot>
         ensures { option_copied result ≡ find (is_file_of server number) self.now.got }
     {
         self.got.iter().find(|file| file.is_of(server, number))
     }
 
     /// The place of the file of this number of this server.
-    fn got_place(&self, server: Call, number: u32) -> Option<usize>
+    fn got_place(&self, server: Call, number: FileNumber) -> Option<usize>
         ensures { result ≡ position (is_file_of server number) self.now.got }
     {
         self.got.iter().position(|file| file.is_of(server, number))
@@ -205,7 +205,7 @@ impl Lists {
     pub(crate) fn add_got(
         &mut self,
         server: Call,
-        number: u32,
+        number: FileNumber,
         octets: &[u8],
     ) -> Result<Behind, OutOfMemory>
         requires { IsTrue (is_allowed self.old (got server number octets.now)) }
@@ -242,7 +242,7 @@ impl Lists {
     }
 
     /// What was got of the file of this number of this server is given up.
-    pub(crate) fn forget(&mut self, server: Call, number: u32)
+    pub(crate) fn forget(&mut self, server: Call, number: FileNumber)
         ensures { self.new ≡ after self.old (forgot server number) }
     {
         self.got.retain(|file| !file.is_of(server, number));
@@ -250,7 +250,7 @@ impl Lists {
 }
 
 /// How this task stands.
-fn noted_as(number: u32, task: &StoredTask) -> Noted
+fn noted_as(number: TaskNumber, task: &StoredTask) -> Noted
     ensures { result ≡ noted_as_task number task.now }
 {
     match task.progress() {
@@ -268,7 +268,7 @@ fn noted_as(number: u32, task: &StoredTask) -> Noted
 
 /// What is answered of this task for a file of this length and digest; none where a fresh task is wanted.
 fn answer_of_task(
-    number: u32,
+    number: TaskNumber,
     task: &StoredTask,
     length: u32,
     digest: &[u8; 32],

@@ -12,7 +12,7 @@ use crate::lists::{Behind, Lists};
 use crate::task::StoredTask;
 use disk_model::Disk;
 use file_journal::{ApplyFault, Journal, Layout, Ledger, RecordContent, RecordPlace};
-use px_base::{Call, OutOfMemory};
+use px_base::{Call, FileNumber, OutOfMemory};
 use std::alloc::Global;
 
 /// What stands in the lists in memory, and is not noted yet.
@@ -65,7 +65,7 @@ impl NotedLists {
     pub(crate) fn bring_got(
         &mut self,
         server: Call,
-        number: u32,
+        number: FileNumber,
         octets: &[u8],
     ) -> Result<(), OutOfMemory>
         requires allowed { IsTrue (is_allowed self.old.lists (got server number octets.now)) }

@@ -20,10 +20,10 @@ use crate::limits::{LONGEST_FILE, MOST_TASKS};
 use crate::lists::Lists;
 use crate::noted_lists::NotedLists;
 use crate::task::StoredTask;
-use crate::{Begun, Noted, NotesRefusal, StoreFault};
+use crate::{Begun, Noted, NotesRefusal, StoreFault, TaskNumber};
 use disk_model::Disk;
 use file_journal::{JournalFault, Kept};
-use px_base::Call;
+use px_base::{Call, FileNumber};
 use std::alloc::Global;
 use std::marker::Model;
 
@@ -119,7 +119,7 @@ impl Notes {
         name: &[u8],
         file_length: u32,
         digest: &[u8; 32],
-    ) -> Result<u32, NotesRefusal>
+    ) -> Result<TaskNumber, NotesRefusal>
         requires stands_on { StandsOn D.Disk self.old disk.old }
         requires few { task_count self.old.lists < most_tasks }
         requires some { 1 ≤ length name.now }
@@ -131,7 +131,7 @@ impl Notes {
         if self.kept.failed() {
             return Err(NotesRefusal::Failed);
         }
-        let task = self.lists().task_count() + 1;
+        let task = TaskNumber::new(self.lists().task_count() + 1);
         self.kept
             .ledger
             .bring_task(StoredTask::new(server, me, name, file_length, digest))?;
@@ -159,8 +159,8 @@ impl Notes {
     pub fn numbered<D: Disk>(
         &mut self,
         disk: &mut D,
-        task: u32,
-        number: u32,
+        task: TaskNumber,
+        number: FileNumber,
     ) -> Result<(), JournalFault>
         requires stands_on { StandsOn D.Disk self.old disk.old }
         requires allowed { IsTrue (is_allowed self.old.lists (numbered task number)) }
@@ -172,7 +172,7 @@ impl Notes {
     }
 
     /// Notes that the server acknowledged the file of a task, which is unfinished and has a number. Takes no memory.
-    pub fn acked<D: Disk>(&mut self, disk: &mut D, task: u32) -> Result<(), JournalFault>
+    pub fn acked<D: Disk>(&mut self, disk: &mut D, task: TaskNumber) -> Result<(), JournalFault>
         requires stands_on { StandsOn D.Disk self.old disk.old }
         requires allowed { IsTrue (is_allowed self.old.lists (acked task)) }
         ensures { Answers D.Disk self.old self.new disk.old disk.new (acked task) result }
@@ -187,7 +187,7 @@ impl Notes {
     pub fn refused<D: Disk>(
         &mut self,
         disk: &mut D,
-        task: u32,
+        task: TaskNumber,
         code: u8,
     ) -> Result<(), JournalFault>
         requires stands_on { StandsOn D.Disk self.old disk.old }
@@ -206,7 +206,7 @@ impl Notes {
         &mut self,
         disk: &mut D,
         server: Call,
-        number: u32,
+        number: FileNumber,
         bytes: &[u8],
     ) -> Result<(), NotesRefusal>
         requires stands_on { StandsOn D.Disk self.old disk.old }
@@ -238,7 +238,7 @@ impl Notes {
         &mut self,
         disk: &mut D,
         server: Call,
-        number: u32,
+        number: FileNumber,
     ) -> Result<(), JournalFault>
         requires { StandsOn D.Disk self.old disk.old }
         ensures { Answers D.Disk self.old self.new disk.old disk.new (forgot server number) result }
@@ -271,7 +271,7 @@ impl Notes {
     }
 
     /// How many octets were got of the file of this number of this server. Takes no memory.
-    pub fn got_len(&self, server: Call, number: u32) -> u32
+    pub fn got_len(&self, server: Call, number: FileNumber) -> u32
         ensures len { result ≡ length (got_of self.now.lists server number) }
         ensures most { result ≤ longest_file }
     {
@@ -280,7 +280,7 @@ impl Notes {
 
     /// Fills `room` with octets got of the file of this number of this server, from place `at` on. They are there.
     /// Takes no memory.
-    pub fn read_got(&self, server: Call, number: u32, at: u32, room: &mut [u8])
+    pub fn read_got(&self, server: Call, number: FileNumber, at: u32, room: &mut [u8])
         requires { at + length room.old ≤ length (got_of self.now.lists server number) }
         ensures { FillsRoom (got_of self.now.lists server number) at (length room.old) room.new }
     {
@@ -289,7 +289,7 @@ impl Notes {
     }
 
     /// The octets got of the file of this number of this server, as they lie in memory. Takes no memory.
-    pub fn got_octets(&self, server: Call, number: u32) -> &[u8]
+    pub fn got_octets(&self, server: Call, number: FileNumber) -> &[u8]
         ensures octets { result.now ≡ got_of self.now.lists server number }
         ensures most { length result.now ≤ longest_file }
     {
@@ -313,7 +313,7 @@ impl Notes {
     }
 
     /// How the task of this number stands; `None` exactly where there is no such task. Takes no memory.
-    pub fn noted_task(&self, task: u32) -> Option<Noted>
+    pub fn noted_task(&self, task: TaskNumber) -> Option<Noted>
         ensures { result ≡ noted_at self.now.lists task }
     {
         self.lists().noted_task(task)

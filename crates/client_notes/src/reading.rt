@@ -4,8 +4,9 @@ ghost use Rattle.std.specs.Prelude.{◌≡◌};
 ghost use Rattle.client_notes.specs.Commands.{IsReadAs};
 ghost use Rattle.client_notes.specs.Records.{acked_in, forgot_in, got_in, is_start_len as has_start_len, numbered_in, refused_in, start_in};
 
+use crate::TaskNumber;
 use crate::command::Command;
-use px_base::{le32, read_call};
+use px_base::{FileNumber, le32, read_call};
 
 /// Whether a content has the length of a Start, with a name of 1 to 64 octets.
 fn is_start_len(content: &[u8]) -> bool
@@ -24,7 +25,7 @@ pub(crate) fn read_start(content: &[u8]) -> Option<Command<'_>>
     let server = read_call(&content[4..11])?;
     let caller = read_call(&content[11..18])?;
     Some(Command::Start {
-        task: le32(content, 0),
+        task: TaskNumber::new(le32(content, 0)),
         server,
         caller,
         name: &content[55..],
@@ -41,8 +42,8 @@ pub(crate) fn read_numbered(content: &[u8]) -> Option<Command<'_>>
         return None;
     }
     Some(Command::Numbered {
-        task: le32(content, 0),
-        number: le32(content, 4),
+        task: TaskNumber::new(le32(content, 0)),
+        number: FileNumber::new(le32(content, 4)),
     })
 }
 
@@ -54,7 +55,7 @@ pub(crate) fn read_acked(content: &[u8]) -> Option<Command<'_>>
         return None;
     }
     Some(Command::Acked {
-        task: le32(content, 0),
+        task: TaskNumber::new(le32(content, 0)),
     })
 }
 
@@ -66,7 +67,7 @@ pub(crate) fn read_refused(content: &[u8]) -> Option<Command<'_>>
         return None;
     }
     Some(Command::Refused {
-        task: le32(content, 0),
+        task: TaskNumber::new(le32(content, 0)),
         code: content[4],
     })
 }
@@ -81,7 +82,7 @@ pub(crate) fn read_got(content: &[u8]) -> Option<Command<'_>>
     let server = read_call(&content[..7])?;
     Some(Command::Got {
         server,
-        number: le32(content, 7),
+        number: FileNumber::new(le32(content, 7)),
         octets: &content[11..],
     })
 }
@@ -96,6 +97,6 @@ pub(crate) fn read_forgot(content: &[u8]) -> Option<Command<'_>>
     let server = read_call(&content[..7])?;
     Some(Command::Forgot {
         server,
-        number: le32(content, 7),
+        number: FileNumber::new(le32(content, 7)),
     })
 }

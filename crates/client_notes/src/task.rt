@@ -10,7 +10,7 @@ ghost use Rattle.client_notes.specs.declared.progress.Progress.TheVariants as pr
 use crate::Progress;
 use crate::limits::LONGEST_FILE;
 use arrayvec::ArrayVec;
-use px_base::{Call, OutOfMemory};
+use px_base::{Call, FileNumber, OutOfMemory};
 use std::alloc::Global;
 use std::marker::Model;
 
@@ -22,7 +22,7 @@ pub(crate) struct StoredTask {
     name: ArrayVec<u8, 64>,
     length: u32,
     digest: [u8; 32],
-    number: u32,
+    number: FileNumber,
     progress: Progress,
 }
 
@@ -65,7 +65,7 @@ impl StoredTask {
             name: kept,
             length: file_length,
             digest: octets,
-            number: 0,
+            number: FileNumber::new(0),
             progress: Progress::Going,
         }
     }
@@ -99,7 +99,7 @@ impl StoredTask {
     }
 
     /// Its number on the server, or 0.
-    pub(crate) fn number(&self) -> u32
+    pub(crate) fn number(&self) -> FileNumber
         ensures { result ≡ self.now.number }
     {
         self.number
@@ -113,7 +113,7 @@ impl StoredTask {
     }
 
     /// It has this number on the server.
-    pub(crate) fn set_number(&mut self, number: u32)
+    pub(crate) fn set_number(&mut self, number: FileNumber)
         ensures { self.new ≡ record self.old { number = number } }
     {
         self.number = number;
@@ -131,7 +131,7 @@ impl StoredTask {
 #[derive(Drop)]
 pub(crate) struct StoredGot {
     server: Call,
-    number: u32,
+    number: FileNumber,
     octets: Vec<u8>,
 }
 
@@ -152,7 +152,7 @@ impl StoredGot {
     pub(crate) fn copy_of(
         alloc: Global,
         server: Call,
-        number: u32,
+        number: FileNumber,
         octets: &[u8],
     ) -> Result<StoredGot, OutOfMemory>
         requires { length octets.now ≤ longest_file }
@@ -166,7 +166,7 @@ impl StoredGot {
     }
 
     /// Whether it is the file of this number of this server.
-    pub(crate) fn is_of(&self, server: Call, number: u32) -> bool
+    pub(crate) fn is_of(&self, server: Call, number: FileNumber) -> bool
         ensures { result ≡ is_file_of server number self.now }
     {
         self.server == server && self.number == number

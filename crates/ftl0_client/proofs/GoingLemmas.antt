@@ -2,43 +2,31 @@
 use Rattle.std.proofs.Common.{◌≡◌, ◌≢◌, ℕ, true, false, ◌==◌, List, [], ◌∷◌, ◌++◌, refl, sym, ◌∙◌, ap, ap₂, subst}
 use Rattle.std.specs.List.{AllByRecursion}
 use Rattle.ax25_link.specs.declared.state.LinkState.TheVariants as link
-use Rattle.ftl0_job.specs.declared.ending.Outcome as job
+use Rattle.ftl0_job.specs.declared.ending.Outcome.{Outcome}
 use Rattle.ftl0_job.specs.declared.ending.Outcome.TheVariants as reached
 use Rattle.ftl0_client.specs.Attempt.Attempted as attempted
 use Rattle.ftl0_client.specs.Attempt.Laws as of_attempts
-use Rattle.ftl0_client.specs.declared.outcome.Outcome.TheVariants as outcome
 use Rattle.ftl0_client.specs.Going.{AsksNothing, GoesLaw, GoesOver, Promises, SettledLaw, Stands, StaysLaw, is_over_at}
 use Rattle.ftl0_client.specs.Outcomes.{outcome_by}
-use Rattle.ftl0_client.proofs.Names.{Option, None, Some, nat_lt, cond_both, same_Some, FrameValue, LinkState, Down, Why, with_timer_anew, Farewell, LinkEnd, Reply, outstanding, is_answered, refusal_frame, Sending, has_new, last_sending, later_sending, next_sending, sending_after, sends_again, sends_farewell, sends_new, sends_reply, with_piece, is_down, Window, NotesCommand, after_all, Lists, is_same_call, after_all-append, Ending, Work, EndPromises, WorkPromises, listing_of, Attempted, calling, outcome_of, ticking, with_end, AttemptStands, CallingLaw, QuietLaw, StandsLaw, AttemptOutcome, Reached, LinkDown, Client, ClientEvent, ClientSends, Refused, asking, asks, hearing_by, hearing_stranger, hears, refusing, sends_by, sends_of_attempt, sends_of_link, ticking_by, ticks, with_attempt, ClientStep, Empties, happening, IsToldDownOf, KeepsOutcome, outcome_as, outcome_of_job}
+use Rattle.ftl0_client.proofs.Names.{Option, None, Some, nat_lt, cond_both, same_Some, FrameValue, LinkState, Down, Why, with_timer_anew, Farewell, LinkEnd, Reply, outstanding, is_answered, refusal_frame, Sending, has_new, last_sending, later_sending, next_sending, sending_after, sends_again, sends_farewell, sends_new, sends_reply, with_piece, is_down, Window, NotesCommand, after_all, Lists, is_same_call, after_all-append, Ending, Work, EndPromises, WorkPromises, listing_of, Attempted, calling, outcome_of, ticking, with_end, AttemptStands, CallingLaw, QuietLaw, StandsLaw, Client, ClientEvent, ClientSends, Refused, asking, asks, hearing_by, hearing_stranger, hears, refusing, sends_by, sends_of_attempt, sends_of_link, ticking_by, ticks, with_attempt, ClientStep, Empties, happening, IsToldDownOf, KeepsOutcome}
 use Rattle.ftl0_client.proofs.OutcomeLemmas.{outcome-stays, stranger-attempt}
 
 -- ---- what stands of the attempt, and of the client
 
 module _ (lists : Lists) (asked : Work) (listing : List ℕ) where
-  of-job : (r : job.Outcome) → WorkPromises lists asked listing r → Promises lists asked listing (outcome_of_job r)
+  of-job : (r : Outcome) → WorkPromises lists asked listing r → Promises lists asked listing (Some r)
   of-job (reached.Acked number) keeps = keeps
   of-job (reached.Refused code) keeps = keeps
   of-job (reached.BadFile code) keeps = keeps
   of-job (reached.Fetched number) keeps = keeps
   of-job reached.Listed keeps = keeps
+  of-job (reached.LinkDown why) keeps = tt
   of-job (reached.Strange kind) keeps = keeps
 
-  to-job : (r : job.Outcome) → Promises lists asked listing (outcome_of_job r) → WorkPromises lists asked listing r
-  to-job (reached.Acked number) keeps = keeps
-  to-job (reached.Refused code) keeps = keeps
-  to-job (reached.BadFile code) keeps = keeps
-  to-job (reached.Fetched number) keeps = keeps
-  to-job reached.Listed keeps = keeps
-  to-job (reached.Strange kind) keeps = keeps
-
-  promised : (o : Option Ending) (down : Option Why) → EndPromises lists asked listing o → Promises lists asked listing (outcome_as (attempted.outcome_by o down))
+  promised : (o : Option Ending) (down : Option Why) → EndPromises lists asked listing o → Promises lists asked listing (attempted.outcome_by o down)
   promised None None keeps = tt
   promised None (Some why) keeps = tt
   promised (Some ending) down keeps = of-job ending.outcome keeps
-
-  promised-back : (o : Option Ending) (down : Option Why) → Promises lists asked listing (outcome_as (attempted.outcome_by o down)) → EndPromises lists asked listing o
-  promised-back None down keeps = tt
-  promised-back (Some ending) down keeps = to-job ending.outcome keeps
 
 module _ (asked : Work) where
   of-attempt : (client : Client) (a : Attempted) → client.attempt ≡ Some a → AttemptStands asked client.lists a → Stands asked client
@@ -51,22 +39,15 @@ module _ (asked : Work) where
         filled = stands.job.filled;
         told_down = stands.told_down;
         down_told = stands.down_told;
+        ended = stands.job.promises;
         promises = subst (λ (o : Option Attempted). Promises client.lists asked (listing_of a.job.work) (outcome_by o)) (sym is)
             (promised client.lists asked (listing_of a.job.work) a.job.ending a.down stands.job.promises);
       }
 
   to-attempt : (client : Client) (stands : Stands asked client) → AttemptStands asked client.lists stands.a
   to-attempt client stands =
-      let a : Attempted = stands.a in
-      let keeps : Promises client.lists asked (listing_of a.job.work) (outcome_by (Some a)) =
-      subst (λ (o : Option Attempted). Promises client.lists asked (listing_of a.job.work) (outcome_by o)) stands.is_attempt stands.promises in
       record {
-        job = record {
-          same = stands.same;
-          go_with = stands.go_with;
-          filled = stands.filled;
-          promises = promised-back client.lists asked (listing_of a.job.work) a.job.ending a.down keeps;
-        };
+        job = record { same = stands.same; go_with = stands.go_with; filled = stands.filled; promises = stands.ended };
         told_down = stands.told_down;
         down_told = stands.down_told;
       }
@@ -105,6 +86,7 @@ module _ (w : Window) (end : LinkEnd) where
 pub record Kept (client now : Client) : Type 0 where
   pub lists : now.lists ≡ client.lists
   pub outcome : outcome_by now.attempt ≡ outcome_by client.attempt
+  pub idle : client.attempt ≡ None → now.attempt ≡ None
   pub told : IsToldDownOf client.attempt → IsToldDownOf now.attempt
   pub stands : (asked : Work) → Stands asked client → Stands asked now
 
@@ -126,6 +108,7 @@ module _ (client : Client) where
       let kept : Kept client now = record {
         lists = refl;
         outcome = ap outcome_by (sym was);
+        idle = λ none. let no : Some a ≡ None = sym was ∙ none in absurd (cc no);
         told = λ down why is. state ∙ subst IsToldDownOf was down why is;
         stands = λ asked stands.
             let mine : stands.a ≡ a = same_Some stands.a a (sym stands.is_attempt ∙ was) in
@@ -143,19 +126,20 @@ module _ (client : Client) where
   stray-kept None = attempt-kept client.attempt refl
   stray-kept (Some refused) = λ sends is.
       let now : Client = record client { stray = None } in
-      let kept : Kept client now = record { lists = refl; outcome = refl; told = λ down. down; stands = λ asked stands. same-stands asked client now refl refl stands } in
+      let kept : Kept client now = record { lists = refl; outcome = refl; idle = λ none. none; told = λ down. down; stands = λ asked stands. same-stands asked client now refl refl stands } in
       let same : record { frame = refusal_frame client.me refused; after = now } ≡ sends = same_Some _ _ is in
       subst (λ (s : ClientSends). Kept client s.after) same kept
 
 empties-kept : (client : Client) (frames : List FrameValue) (last : Client) → Empties client frames last → Kept client last
 empties-kept client [] last h =
-    subst (λ (c : Client). Kept client c) (sym h.1) (record { lists = refl; outcome = refl; told = λ down. down; stands = λ asked stands. stands })
+    subst (λ (c : Client). Kept client c) (sym h.1) (record { lists = refl; outcome = refl; idle = λ none. none; told = λ down. down; stands = λ asked stands. stands })
 empties-kept client (frame ∷ frames) last h =
     let first : Kept client h.0.after = stray-kept client client.stray h.0 h.1 in
     let rest : Kept h.0.after last = empties-kept h.0.after frames last h.3 in
     record {
       lists = rest.lists ∙ first.lists;
       outcome = rest.outcome ∙ first.outcome;
+      idle = λ none. rest.idle (first.idle none);
       told = λ down. rest.told (first.told down);
       stands = λ asked stands. rest.stands asked (first.stands asked stands);
     }
@@ -244,30 +228,17 @@ module _ (law : StandsLaw) (asked : Work) where
 
 -- ---- it is over only where something became of what was asked
 
-job-done : (r : job.Outcome) → outcome_of_job r ≢ outcome.Working
-job-done (reached.Acked number) is = cc is
-job-done (reached.Refused code) is = cc is
-job-done (reached.BadFile code) is = cc is
-job-done (reached.Fetched number) is = cc is
-job-done reached.Listed is = cc is
-job-done (reached.Strange kind) is = cc is
-
-some-done : (o : Option AttemptOutcome) → o ≢ None → outcome_as o ≢ outcome.Working
-some-done None some = absurd (some refl)
-some-done (Some (Reached of)) some = job-done of
-some-done (Some (LinkDown why)) some = λ is. cc is
-
 down-state : (state : LinkState) → is_down state ≡ true → state ≡ Down
 down-state link.Down is = refl
 down-state link.Calling is = absurd (cc is)
 down-state link.Up is = absurd (cc is)
 down-state link.Ending is = absurd (cc is)
 
-over-done : (asked : Work) (client : Client) → Stands asked client → is_over_at client.attempt ≡ true → outcome_by client.attempt ≢ outcome.Working
+over-done : (asked : Work) (client : Client) → Stands asked client → is_over_at client.attempt ≡ true → outcome_by client.attempt ≢ None
 over-done asked client stands over =
     let a : Attempted = stands.a in
     let down : a.end.state ≡ Down = down-state a.end.state (ap is_over_at (sym stands.is_attempt) ∙ over) in
-    subst (λ (o : Option Attempted). outcome_by o ≢ outcome.Working) (sym stands.is_attempt) (some-done (outcome_of a) (stands.down_told down))
+    subst (λ (o : Option Attempted). outcome_by o ≢ None) (sym stands.is_attempt) (stands.down_told down)
 
 pub goes-law : StandsLaw → CallingLaw → GoesLaw
 goes-law law call base job events frames commands now new go_with nothing h =
@@ -288,17 +259,13 @@ goes-law law call base job events frames commands now new go_with nothing h =
 
 -- ---- once something became of it
 
--- there is an outcome
-done-some : (o : Option AttemptOutcome) → outcome_as o ≢ outcome.Working → o ≢ None
-done-some o done is = done (ap outcome_as is)
-
-module _ (law : QuietLaw) (stays : of_attempts.OutcomeLaw) (asked : Work) (client : Client) (stands : Stands asked client) (done : outcome_by client.attempt ≢ outcome.Working) where
+module _ (law : QuietLaw) (stays : of_attempts.OutcomeLaw) (asked : Work) (client : Client) (stands : Stands asked client) (done : outcome_by client.attempt ≢ None) where
   -- what it has is told
   told : IsToldDownOf client.attempt
   told = subst IsToldDownOf (sym stands.is_attempt) stands.told_down
 
   of-mine : outcome_of stands.a ≢ None
-  of-mine = done-some (outcome_of stands.a) (subst (λ (o : Option Attempted). outcome_by o ≢ outcome.Working) stands.is_attempt done)
+  of-mine = subst (λ (o : Option Attempted). outcome_by o ≢ None) stands.is_attempt done
 
   quiet-hearing : (frame : FrameValue) → (happening client (hears frame)).noted ≡ []
   quiet-hearing frame =
@@ -340,7 +307,7 @@ module _ (law : of_attempts.OutcomeLaw) where
 
   goes-keep : (client : Client) (events : List ClientEvent) (frames : List FrameValue) (commands : List NotesCommand) (now : Client) → IsToldDownOf client.attempt → AllByRecursion AsksNothing events
       → GoesOver client events frames commands now → KeepsOutcome client now
-  goes-keep client [] frames commands now down nothing h = subst (KeepsOutcome client) (sym h.2) (record { down = down; stays = λ done. refl })
+  goes-keep client [] frames commands now down nothing h = subst (KeepsOutcome client) (sym h.2) (record { down = down; stays = λ done. refl; idle = λ none. none })
   goes-keep client (event ∷ events) frames commands now down nothing h =
       let one : KeepsOutcome client (happening client event).after = event-keeps client event nothing.0 down in
       let sent : Kept (happening client event).after h.2 = empties-kept (happening client event).after h.1 h.2 h.5.sent in
@@ -350,6 +317,7 @@ module _ (law : of_attempts.OutcomeLaw) where
         stays = λ done.
             let same : outcome_by h.2.attempt ≡ outcome_by client.attempt = sent.outcome ∙ one.stays done in
             rest.stays (λ working. done (sym same ∙ working)) ∙ same;
+        idle = λ none. rest.idle (sent.idle (one.idle none));
       }
 
   pub stays-law : StaysLaw

@@ -47,9 +47,6 @@ pub use Rattle.ftl0_client.specs.ClientState.{ClientState, GoWithAttempt, HasLin
 pub use Rattle.ftl0_client.specs.ClientStep.{ClientStep, Empties, happening}
 pub use Rattle.ftl0_client.specs.Inside.{client_state}
 pub use Rattle.ftl0_client.specs.Laws.{EndFits, IsToldDownOf, KeepsOutcome, MayStep, OneStepLaw, SomeStepLaw, StrangerLaw}
-pub use Rattle.ftl0_client.specs.Outcomes.{outcome_as, outcome_of_job}
-pub use Rattle.ftl0_client.specs.declared.attempt.outcome.AttemptOutcome.{AttemptOutcome}
-pub use Rattle.ftl0_client.specs.declared.attempt.outcome.AttemptOutcome.TheVariants.{LinkDown, Reached}
 pub use Rattle.ftl0_job.proofs.Offered.{DownloadRows, UploadRows, acknowledged, download-rows, ending-none, fetched, job-in, stays-item, upload-rows}
 pub use Rattle.ftl0_job.specs.Due.{DuePacket, PutsDue, due_by, in_job, next_due, work_due}
 pub use Rattle.ftl0_job.specs.JobState.{GoBy, GoWith, HasGot, HasTask, MayTake}

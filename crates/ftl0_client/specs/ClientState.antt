@@ -1,5 +1,5 @@
 -- A client as contracts see it, and which of the definitions' clients it stands for.
-use Rattle.std.specs.Prelude.{◌≡◌, ◌≢◌, ℕ, ◌+◌, List, [], Bool, true, false, not, ◌&&◌, ◌||◌, Option, None, Some, ⊤}
+use Rattle.std.specs.Prelude.{◌≡◌, ℕ, ◌+◌, List, [], Bool, true, false, is_none, not, ◌&&◌, ◌||◌, Option, None, Some, ⊤}
 use Rattle.sha2.specs.Sha256.{sha256}
 use Rattle.px_base.specs.CallSign.{CallSign}
 use Rattle.disk_model.specs.declared.disk.Disk.{Ghosts}
@@ -7,6 +7,7 @@ use Rattle.ax25_link.specs.Kept.{Fits, HasStations, count_of, is_pending, is_the
 use Rattle.ax25_link.specs.Window.{Window, window_of}
 use Rattle.client_notes.specs.Notes.{Lists}
 use Rattle.client_notes.specs.State.{IsReady, NotesState}
+use Rattle.ftl0_job.specs.declared.ending.Outcome.{Outcome}
 use Rattle.ftl0_job.specs.declared.work.Work.{Work}
 use Rattle.ftl0_job.specs.declared.work.Work.TheVariants as work
 use Rattle.ftl0_job.specs.JobState.{IsTaskOf, NotesGoWith}
@@ -15,9 +16,6 @@ use Rattle.ftl0_client.specs.Attempt.Attempted.{Attempted}
 use Rattle.ftl0_client.specs.Attempt.Attempted as attempted
 use Rattle.ftl0_client.specs.Attempt.AttemptState.{AttemptState, IsAttempt, is_closed}
 use Rattle.ftl0_client.specs.Client.{Client, Refused}
-use Rattle.ftl0_client.specs.declared.outcome.Outcome.{Outcome}
-use Rattle.ftl0_client.specs.declared.outcome.Outcome.TheVariants as outcome
-use Rattle.ftl0_client.specs.Outcomes.{outcome_as}
 
 -- its call, its server's, the window k of its links, its notes, the attempt of what was asked last, if anything was,
 -- and the DM that is to be sent
@@ -50,14 +48,19 @@ abbrev pub new_state : CallSign → CallSign → ℕ → NotesState → ClientSt
 new_state me server k notes =
     record { me = me; server = server; k = k; notes = notes; attempt = None; stray = None }
 
--- what became of what was asked last
-abbrev pub outcome_in : Option AttemptState → Outcome
-outcome_in None = outcome.Idle
-outcome_in (Some attempt) = outcome_as (attempted.outcome_by attempt.job.ending attempt.down)
+-- what became of what was asked last, if anything was and did
+abbrev pub outcome_in : Option AttemptState → Option Outcome
+outcome_in None = None
+outcome_in (Some attempt) = attempted.outcome_by attempt.job.ending attempt.down
+
+-- what was asked last is under way: nothing became of it yet
+abbrev pub under_way_in : Option AttemptState → Bool
+under_way_in None = false
+under_way_in (Some attempt) = is_none (attempted.outcome_by attempt.job.ending attempt.down)
 
 -- nothing is under way: nothing was asked, or there is an outcome
 abbrev pub IsFree : ClientState → Type 0
-IsFree self = outcome_in self.attempt ≢ outcome.Working
+IsFree self = under_way_in self.attempt ≡ false
 
 -- a frame is to be sent
 abbrev pub attempt_pending : Option AttemptState → Bool

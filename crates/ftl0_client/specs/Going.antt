@@ -7,17 +7,16 @@ use Rattle.ax25_link.specs.Timer.{is_down}
 use Rattle.client_notes.specs.Command.{NotesCommand}
 use Rattle.client_notes.specs.Laws.{after_all}
 use Rattle.client_notes.specs.Notes.{Lists}
-use Rattle.ftl0_job.specs.declared.ending.Outcome.TheVariants as reached
+use Rattle.ftl0_job.specs.declared.ending.Outcome.{Outcome}
+use Rattle.ftl0_job.specs.declared.ending.Outcome.TheVariants.{LinkDown}
 use Rattle.ftl0_job.specs.declared.work.Work.{Work}
 use Rattle.ftl0_job.specs.JobState.{IsNew, NotesGoWith}
-use Rattle.ftl0_job.specs.Promises.{IsFilled, IsOfSame, WorkPromises}
+use Rattle.ftl0_job.specs.Promises.{EndPromises, IsFilled, IsOfSame, WorkPromises}
 use Rattle.ftl0_job.specs.Table.{JobState, listing_of}
 use Rattle.ftl0_client.specs.Attempt.Attempted.{Attempted, outcome_of}
 use Rattle.ftl0_client.specs.Attempt.Laws.{IsToldDown}
 use Rattle.ftl0_client.specs.Client.{Client, ClientEvent, asks, hears, ticks}
 use Rattle.ftl0_client.specs.ClientStep.{ClientStep}
-use Rattle.ftl0_client.specs.declared.outcome.Outcome.{Outcome}
-use Rattle.ftl0_client.specs.declared.outcome.Outcome.TheVariants as outcome
 use Rattle.ftl0_client.specs.Outcomes.{outcome_by}
 
 -- Over these events, one after another, the client comes from one to another: it sends these frames and notes these
@@ -45,21 +44,15 @@ AsksNothing (hears frame) = ⊤
 AsksNothing ticks = ⊤
 
 -- What an outcome of this work promises, by the notes and the list that came: what its job does. What is under way, or
--- whose link went down, promises nothing. Once something was asked the client isn't idle.
-abbrev pub Promises : Lists → Work → List ℕ → Outcome → Type 0
-Promises lists asked listing outcome.Idle = ⊥
-Promises lists asked listing outcome.Working = ⊤
-Promises lists asked listing (outcome.Acked number) = WorkPromises lists asked listing (reached.Acked number)
-Promises lists asked listing (outcome.Refused code) = WorkPromises lists asked listing (reached.Refused code)
-Promises lists asked listing (outcome.BadFile code) = WorkPromises lists asked listing (reached.BadFile code)
-Promises lists asked listing (outcome.Fetched number) = WorkPromises lists asked listing (reached.Fetched number)
-Promises lists asked listing outcome.Listed = WorkPromises lists asked listing reached.Listed
-Promises lists asked listing (outcome.LinkDown why) = ⊤
-Promises lists asked listing (outcome.Strange kind) = WorkPromises lists asked listing (reached.Strange kind)
+-- whose link went down, promises nothing.
+abbrev pub Promises : Lists → Work → List ℕ → Option Outcome → Type 0
+Promises lists asked listing None = ⊤
+Promises lists asked listing (Some (LinkDown why)) = ⊤
+Promises lists asked listing (Some reached) = WorkPromises lists asked listing reached
 
 -- What stands of a client of which this work was asked, at the end of each event: its attempt is of the same work, and
 -- the notes go with its job; its end of the link is down where it went down before an outcome, and only where something
--- became of what was asked; and what became of it keeps what it promises.
+-- became of what was asked; and what became of it keeps what it promises, as the outcome of its job does.
 pub record Stands (asked : Work) (client : Client) : Type 0 where
   pub a : Attempted
   pub is_attempt : client.attempt ≡ Some a
@@ -68,13 +61,14 @@ pub record Stands (asked : Work) (client : Client) : Type 0 where
   pub filled : IsFilled a.job.work
   pub told_down : IsToldDown a
   pub down_told : a.end.state ≡ Down → outcome_of a ≢ None
+  pub ended : EndPromises client.lists asked (listing_of a.job.work) a.job.ending
   pub promises : Promises client.lists asked (listing_of a.job.work) (outcome_by client.attempt)
 
 -- What a client that was asked for a job comes to over frames and ticks.
 pub record Comes (base : Client) (job : JobState) (commands : List NotesCommand) (now : Client) : Type 0 where
   pub lists : now.lists ≡ after_all base.lists commands
   pub stands : Stands job.work now
-  pub over : is_over now ≡ true → outcome_by now.attempt ≢ outcome.Working
+  pub over : is_over now ≡ true → outcome_by now.attempt ≢ None
 
 -- A client that is asked for a job that was just made, over notes that go with it, comes to this.
 abbrev pub GoesLaw : Type 0
@@ -88,7 +82,7 @@ GoesLaw =
 abbrev pub SettledLaw : Type 0
 SettledLaw =
     (asked : Work) (old : Client) (events : List ClientEvent) (frames : List FrameValue)
-    (commands : List NotesCommand) (now : Client) → Stands asked old → outcome_by old.attempt ≢ outcome.Working
+    (commands : List NotesCommand) (now : Client) → Stands asked old → outcome_by old.attempt ≢ None
     → AllByRecursion AsksNothing events → GoesOver old events frames commands now
     → (commands ≡ []) × (outcome_by now.attempt ≡ outcome_by old.attempt)
 
@@ -99,4 +93,4 @@ StaysLaw =
     (commands further : List NotesCommand) (mid now : Client)
     → AllByRecursion AsksNothing events → AllByRecursion AsksNothing others
     → GoesOver base (asks job ∷ events) frames commands mid → GoesOver mid others more further now
-    → outcome_by mid.attempt ≢ outcome.Working → outcome_by now.attempt ≡ outcome_by mid.attempt
+    → outcome_by mid.attempt ≢ None → outcome_by now.attempt ≡ outcome_by mid.attempt

@@ -8,6 +8,7 @@ use Rattle.ax25_link.specs.Rows.{after_frame}
 use Rattle.ax25_link.specs.Sending.{IsQuiet, Sending, next_sending}
 use Rattle.ax25_link.specs.Window.{Window}
 use Rattle.client_notes.specs.Command.{NotesCommand}
+use Rattle.ftl0_job.specs.declared.ending.Outcome.TheVariants as outcome
 use Rattle.ftl0_job.specs.declared.work.Work.TheVariants as work
 use Rattle.ftl0_job.specs.Download.{Download}
 use Rattle.ftl0_job.specs.JobState.{HasGot, HasTask}
@@ -18,7 +19,6 @@ use Rattle.ftl0_client.specs.Attempt.Laws.{AcknowledgesIn, IsFetchedBy, IsToldDo
 use Rattle.ftl0_client.specs.Client.{Client, ClientEvent, ClientSends, IsSilent, client_hearing, client_next}
 use Rattle.ftl0_client.specs.Client.{client_ticking, hearing_stranger}
 use Rattle.ftl0_client.specs.ClientStep.{ClientStep}
-use Rattle.ftl0_client.specs.declared.outcome.Outcome.TheVariants as outcome
 use Rattle.ftl0_client.specs.Outcomes.{outcome_by}
 
 -- what a step gives
@@ -63,10 +63,11 @@ abbrev pub IsToldDownOf : Option Attempted → Type 0
 IsToldDownOf None = ⊤
 IsToldDownOf (Some a) = IsToldDown a
 
--- what became of what was asked, if anything did, is what became of it then
+-- what became of what was asked, if anything did, is what became of it then; and nothing was asked where nothing was
 pub record KeepsOutcome (old new : Client) : Type 0 where
   pub down : IsToldDownOf new.attempt
-  pub stays : outcome_by old.attempt ≢ outcome.Working → outcome_by new.attempt ≡ outcome_by old.attempt
+  pub stays : outcome_by old.attempt ≢ None → outcome_by new.attempt ≡ outcome_by old.attempt
+  pub idle : old.attempt ≡ None → new.attempt ≡ None
 
 -- Once something became of what was asked, no frame and no tick changes it.
 abbrev pub OutcomeLaw : Type 0
@@ -79,7 +80,7 @@ abbrev pub AckedLaw : Type 0
 AckedLaw =
     (client : Client) (frame : FrameValue) (a : Attempted) (at : Upload) (number : ℕ)
     → client.attempt ≡ Some a → a.job ≡ new_job (work.Upload at) → HasTask client.lists at
-    → outcome_by (client_hearing client frame).after.attempt ≡ outcome.Acked number
+    → outcome_by (client_hearing client frame).after.attempt ≡ Some (outcome.Acked number)
     → AcknowledgesIn client.lists at.task number (client_hearing client frame).noted
 
 -- The frame by which a download comes to the outcome that its file was fetched leaves the file noted, without fault.
@@ -87,7 +88,7 @@ abbrev pub FetchedLaw : Type 0
 FetchedLaw =
     (client : Client) (frame : FrameValue) (a : Attempted) (at : Download) (number : ℕ)
     → client.attempt ≡ Some a → a.job ≡ new_job (work.Download at) → HasGot client.lists at
-    → outcome_by (client_hearing client frame).after.attempt ≡ outcome.Fetched number
+    → outcome_by (client_hearing client frame).after.attempt ≡ Some (outcome.Fetched number)
     → IsFetchedBy number client.lists at (client_hearing client frame).noted
 
 -- A station with which there is no link hears what an end to it that is down would say.

@@ -18,5 +18,6 @@ pub use Rattle.ftl0_job.specs.Table
 pub use Rattle.ftl0_job.specs.Taking
 pub use Rattle.ftl0_job.specs.Upload
 pub use Rattle.ftl0_job.specs.declared.ending.Ending
+pub use Rattle.ftl0_job.specs.declared.ending.Outcome
 pub use Rattle.ftl0_job.specs.declared.work.Work
 pub use Rattle.ftl0_packets.specs.Layout

@@ -6,7 +6,5 @@
 
 mod attempt;
 pub mod laws;
-mod outcome;
 
 pub use attempt::Attempt;
-pub use outcome::AttemptOutcome;

@@ -17,20 +17,19 @@ ghost use Rattle.ftl0_client.specs.Attempt.AttemptState.{PutsBy};
 ghost use Rattle.ftl0_client.specs.Calls.{Becomes, HandsOutNext, HasAsked, Hears, KeepsNotes, SameButFrames};
 ghost use Rattle.ftl0_client.specs.Calls.{SameClient};
 ghost use Rattle.ftl0_client.specs.Client.{Client as ClientValue, asking, client_ticking, hearing_stranger, new_client};
-ghost use Rattle.ftl0_client.specs.Outcomes.{outcome_by};
+ghost use Rattle.ftl0_client.specs.Outcomes.{is_under_way, outcome_by};
 ghost use Rattle.ftl0_client.specs.ClientState.{IsClient, IsFree, IsOwn, LinkFits, MayHear};
 ghost use Rattle.ftl0_client.specs.ClientState.{client_closed, client_most, client_pending, listing_in, new_state};
-ghost use Rattle.ftl0_client.specs.ClientState.{outcome_in};
+ghost use Rattle.ftl0_client.specs.ClientState.{outcome_in, under_way_in};
 
-use crate::Outcome;
 use crate::attempt::Attempt;
 use arrayvec::ArrayVec;
 use ax25_frames::Frame;
 use ax25_link::{Refusal, is_answered};
 use client_notes::{Begun, Notes, NotesRefusal};
 use disk_model::{Disk, Halt};
-use ftl0_job::Job;
 use ftl0_job::laws::{owned_law, started_law};
+use ftl0_job::{Job, Outcome};
 use px_base::{Call, OutOfMemory};
 use std::alloc::Global;
 use std::marker::Model;
@@ -239,16 +238,31 @@ impl Client {
         }
     }
 
-    /// What became of what was asked last. Takes no memory.
-    pub fn outcome(&self) -> Outcome
+    /// What became of what was asked last; `None` as long as it is under way, and before anything was asked. Takes no
+    /// memory.
+    pub fn outcome(&self) -> Option<Outcome>
         ensures outcome { result ≡ outcome_in self.now.attempt }
 
         // It is that of whichever client it stands for.
         ensures means { (client : ClientValue) → IsClient self.now client → result ≡ outcome_by client.attempt }
     {
         match &self.attempt {
-            Some(attempt) => Outcome::of_attempt(attempt.outcome()),
-            None => Outcome::Idle,
+            Some(attempt) => attempt.outcome(),
+            None => None,
+        }
+    }
+
+    /// Whether what was asked last is under way: nothing became of it yet. Before anything was asked nothing is. Takes
+    /// no memory.
+    pub fn is_under_way(&self) -> bool
+        ensures under_way { result ≡ under_way_in self.now.attempt }
+
+        // So it is with whichever client it stands for.
+        ensures means { (client : ClientValue) → IsClient self.now client → result ≡ is_under_way client.attempt }
+    {
+        match &self.attempt {
+            Some(attempt) => attempt.outcome().is_none(),
+            None => false,
         }
     }
 

@@ -6,8 +6,6 @@
 pub mod attempt;
 mod client;
 pub mod laws;
-mod outcome;
 
 pub use client::Client;
-pub use ftl0_job::Job;
-pub use outcome::Outcome;
+pub use ftl0_job::{Job, Outcome};

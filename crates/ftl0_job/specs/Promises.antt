@@ -36,6 +36,7 @@ UploadPromises lists task (outcome.Refused code) = ⊤
 UploadPromises lists task (outcome.BadFile code) = ⊥
 UploadPromises lists task (outcome.Fetched number) = ⊥
 UploadPromises lists task outcome.Listed = ⊥
+UploadPromises lists task (outcome.LinkDown why) = ⊥
 UploadPromises lists task (outcome.Strange kind) = ⊤
 
 -- A list that came whole is short headers, one after another. It sends and fetches nothing.
@@ -45,6 +46,7 @@ ListPromises listing (outcome.Refused code) = ⊤
 ListPromises listing (outcome.BadFile code) = ⊥
 ListPromises listing (outcome.Fetched number) = ⊥
 ListPromises listing outcome.Listed = are_short_headers listing ≡ true
+ListPromises listing (outcome.LinkDown why) = ⊥
 ListPromises listing (outcome.Strange kind) = ⊤
 
 -- The download of a server's file that was fetched is of the file of that number, whose octets are noted, and have no
@@ -56,9 +58,11 @@ DownloadPromises lists server asked (outcome.BadFile code) = got_of lists server
 DownloadPromises lists server asked (outcome.Fetched number) =
     (number ≡ asked) × (fault_code (got_of lists server asked) ≡ None)
 DownloadPromises lists server asked outcome.Listed = ⊥
+DownloadPromises lists server asked (outcome.LinkDown why) = ⊥
 DownloadPromises lists server asked (outcome.Strange kind) = ⊤
 
--- What an outcome of this work promises, by the notes and the list that came. No work comes to another's outcome.
+-- What an outcome of this work promises, by the notes and the list that came. No work comes to another's outcome, and
+-- none to that of a link.
 abbrev pub WorkPromises : Lists → Work → List ℕ → Outcome → Type 0
 WorkPromises lists (work.Upload at) listing reached = UploadPromises lists at.task reached
 WorkPromises lists (work.Directory at) listing reached = ListPromises listing reached

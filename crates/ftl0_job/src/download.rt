@@ -20,7 +20,7 @@ use client_notes::{LONGEST_FILE, MOST_GOT, Notes};
 use disk_model::{Disk, Halt};
 use ftl0_packets::{ErrorCode, Packet, write_packet};
 use pfh_reader::check;
-use px_base::Call;
+use px_base::{Call, FileNumber};
 use std::marker::Model;
 
 /// The type of DATA.
@@ -33,7 +33,7 @@ type Block = ArrayVec<u8, MOST_GOT>;
 #[derive(Drop)]
 pub(crate) struct Download {
     server: Call,
-    number: u32,
+    number: FileNumber,
     /// The octets that came and aren't noted yet.
     rest: Block,
     phase: DownloadPhase,
@@ -52,7 +52,7 @@ impl Model for Download {
 
 impl Download {
     /// A download that waits for LOGIN_RESP.
-    pub(crate) fn new(server: Call, number: u32) -> Download
+    pub(crate) fn new(server: Call, number: FileNumber) -> Download
         requires { 1 ≤ number }
         ensures { result ≡ new_download server number }
     {
@@ -101,7 +101,7 @@ impl Download {
             return Some(strange(packet.kind()));
         };
         let download = Packet::DownloadCmd {
-            number: self.number,
+            number: self.number.get(),
             offset: notes.got_len(self.server, self.number),
             lock: 0,
         };
@@ -214,7 +214,7 @@ fn note_blocks<D: Disk>(
     disk: &mut D,
     notes: &mut Notes,
     server: Call,
-    number: u32,
+    number: FileNumber,
     rest: &Block,
     octets: &[u8],
 ) -> Result<Block, Halt>
@@ -254,7 +254,7 @@ fn note_rest<D: Disk>(
     disk: &mut D,
     notes: &mut Notes,
     server: Call,
-    number: u32,
+    number: FileNumber,
     rest: &Block,
 ) -> Result<(), Halt>
     requires ready { IsReady D.Disk notes.old disk.old }

@@ -3,13 +3,16 @@
 ghost use Rattle.std.specs.Prelude.{◌≡◌};
 ghost use Rattle.ftl0_job.specs.Row.{at_once as ending_at_once, later as ending_later, strange_ending};
 
-/// What became of a job.
+use ax25_link::Why;
+use px_base::FileNumber;
+
+/// What became of what was asked: of a job, or of the link over which it was done.
 #[derive(Clone, Copy, Debug, PartialEq, Eq)]
 pub enum Outcome {
-    /// The server acknowledged the file.
+    /// The server acknowledged the file, and that is noted.
     Acked {
         /// Its number on the server.
-        number: u32,
+        number: FileNumber,
     },
     /// The server refused the upload, the selection or the download.
     Refused {
@@ -21,13 +24,15 @@ pub enum Outcome {
         /// The code of its first fault: 6, 7, 14, 15 or 16.
         code: u8,
     },
-    /// The whole file came, has no fault, and the server knows.
+    /// The whole file came, is noted, has no fault, and the server knows.
     Fetched {
         /// Its number on the server.
-        number: u32,
+        number: FileNumber,
     },
     /// The whole list came.
     Listed,
+    /// The link went down, for this reason, before any of the others. No job ends so.
+    LinkDown(Why),
     /// A packet came that has no row in the state, or is malformed; or the reply to it didn't fit the link.
     Strange {
         /// Its type.

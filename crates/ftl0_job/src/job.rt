@@ -23,10 +23,10 @@ use crate::upload::Upload;
 use crate::work::Work;
 use crate::{Ending, Outcome};
 use arrayvec::ArrayVec;
-use client_notes::Notes;
+use client_notes::{Notes, TaskNumber};
 use disk_model::{Disk, Halt};
 use ftl0_packets::{Malformed, Packet};
-use px_base::{Call, FileBytes};
+use px_base::{Call, FileBytes, FileNumber};
 use std::alloc::Global;
 use std::marker::Model;
 
@@ -52,7 +52,7 @@ impl Model for Job {
 impl Job {
     /// The upload of a task's file, of at most 4,194,304 octets. The number is the one that the file is known to have on
     /// the server, or 0. Takes no memory.
-    pub fn upload(task: u32, number: u32, file: FileBytes) -> Job
+    pub fn upload(task: TaskNumber, number: FileNumber, file: FileBytes) -> Job
         requires { length file ≤ longest_file }
         ensures { result ≡ new_job (work.Upload (new_upload task number file)) }
     {
@@ -75,7 +75,7 @@ impl Job {
 
     /// The download of the file of this number, which isn't 0, of this server, behind the octets that the notes have.
     /// Takes no memory.
-    pub fn download(server: Call, number: u32) -> Job
+    pub fn download(server: Call, number: FileNumber) -> Job
         requires { 1 ≤ number }
         ensures { result ≡ new_job (work.Download (new_download server number)) }
     {

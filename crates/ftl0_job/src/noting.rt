@@ -6,18 +6,18 @@ ghost use Rattle.client_notes.specs.State.{IsReady};
 ghost use Rattle.ftl0_job.specs.Noting.{HasNoted, IsAnswer, IsAnswerOf, IsOfNoting, MayNote, NotesAtOnce};
 ghost use Rattle.ftl0_job.specs.Upload.{refusal_of};
 
-use client_notes::{Notes, NotesRefusal};
+use client_notes::{Notes, NotesRefusal, TaskNumber};
 use disk_model::{Disk, Halt};
 use file_journal::JournalFault;
 use ftl0_packets::ErrorCode;
-use px_base::Call;
+use px_base::{Call, FileNumber};
 
 /// Notes the number of a task's file. Takes no memory.
 pub(crate) fn note_number<D: Disk>(
     disk: &mut D,
     notes: &mut Notes,
-    task: u32,
-    number: u32,
+    task: TaskNumber,
+    number: FileNumber,
 ) -> Result<(), Halt>
     requires { MayNote D.Disk notes.old disk.old (numbered task number) }
     ensures { NotesAtOnce D.Disk notes.old notes.new disk.old disk.new (numbered task number ∷ []) result }
@@ -26,7 +26,11 @@ pub(crate) fn note_number<D: Disk>(
 }
 
 /// Notes that a task's file was acknowledged. Takes no memory.
-pub(crate) fn note_acked<D: Disk>(disk: &mut D, notes: &mut Notes, task: u32) -> Result<(), Halt>
+pub(crate) fn note_acked<D: Disk>(
+    disk: &mut D,
+    notes: &mut Notes,
+    task: TaskNumber,
+) -> Result<(), Halt>
     requires { MayNote D.Disk notes.old disk.old (acked task) }
     ensures { NotesAtOnce D.Disk notes.old notes.new disk.old disk.new (acked task ∷ []) result }
 {
@@ -37,7 +41,7 @@ pub(crate) fn note_acked<D: Disk>(disk: &mut D, notes: &mut Notes, task: u32) ->
 pub(crate) fn note_refused<D: Disk>(
     disk: &mut D,
     notes: &mut Notes,
-    task: u32,
+    task: TaskNumber,
     code: u8,
 ) -> Result<(), Halt>
     requires { MayNote D.Disk notes.old disk.old (refused task code) }
@@ -54,7 +58,7 @@ pub(crate) fn note_forgot<D: Disk>(
     disk: &mut D,
     notes: &mut Notes,
     server: Call,
-    number: u32,
+    number: FileNumber,
 ) -> Result<(), Halt>
     requires { IsReady D.Disk notes.old disk.old }
     ensures { HasNoted D.Disk notes.old notes.new disk.old disk.new (forgot server number ∷ []) result }
@@ -67,7 +71,7 @@ pub(crate) fn note_got<D: Disk>(
     disk: &mut D,
     notes: &mut Notes,
     server: Call,
-    number: u32,
+    number: FileNumber,
     octets: &[u8],
 ) -> Result<(), Halt>
     requires { MayNote D.Disk notes.old disk.old (got server number octets.now) }

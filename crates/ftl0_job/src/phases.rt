@@ -1,5 +1,7 @@
 //! How far a job has come (FTL0 1990, the client's states).
 
+use px_base::FileNumber;
+
 /// How far an upload has come.
 #[derive(Clone, Copy)]
 pub(crate) enum UploadPhase {
@@ -8,9 +10,9 @@ pub(crate) enum UploadPhase {
     /// UL_GO_RESP is waited for.
     Go,
     /// The file, which has this number on the server, is sent from this place on.
-    Sending { number: u32, place: u32 },
+    Sending { number: FileNumber, place: u32 },
     /// The word on the file of this number is waited for.
-    Ack { number: u32 },
+    Ack { number: FileNumber },
 }
 
 /// How far a list has come.

@@ -17,10 +17,10 @@ use crate::noting::{note_acked, note_number, note_refused};
 use crate::phases::UploadPhase;
 use crate::{Ending, Outcome, Replies};
 use arrayvec::ArrayVec;
-use client_notes::Notes;
+use client_notes::{Notes, TaskNumber};
 use disk_model::{Disk, Halt};
 use ftl0_packets::{ErrorCode, Packet, write_packet};
-use px_base::FileBytes;
+use px_base::{FileBytes, FileNumber};
 use std::marker::Model;
 
 /// The type of UL_GO_RESP.
@@ -30,9 +30,9 @@ const UL_GO_RESP: u8 = 4;
 #[derive(Drop)]
 pub(crate) struct Upload {
     /// The task of the notes.
-    task: u32,
+    task: TaskNumber,
     /// The number that the file was known to have on the server when the upload began, or 0.
-    known: u32,
+    known: FileNumber,
     file: FileBytes,
     phase: UploadPhase,
 }
@@ -51,7 +51,7 @@ impl Model for Upload {
 
 impl Upload {
     /// An upload that waits for LOGIN_RESP.
-    pub(crate) fn new(task: u32, known: u32, file: FileBytes) -> Upload
+    pub(crate) fn new(task: TaskNumber, known: FileNumber, file: FileBytes) -> Upload
         requires { length file ≤ longest_file }
         ensures { result ≡ new_upload task known file }
     {
@@ -76,7 +76,8 @@ impl Upload {
         ensures { TakesAtOnce D.Disk (upload_row self.old (value_of packet.now))
             (with_notes self.old notes.old disk.old) (with_notes self.new notes.new disk.new) replies.new.items result }
     {
-        match self.phase {
+        let phase = self.phase;
+        match phase {
             UploadPhase::Login => Ok(self.take_login(packet, replies)),
             UploadPhase::Go => self.take_go(disk, packet, notes),
             UploadPhase::Sending { .. } => self.take_sending(disk, packet, notes, replies),
@@ -94,7 +95,7 @@ impl Upload {
             return Some(strange(packet.kind()));
         };
         let upload = Packet::UploadCmd {
-            number: self.known,
+            number: self.known.get(),
             length: self.file.len() as u32,
         };
         write_packet(&upload, replies);
@@ -114,7 +115,9 @@ impl Upload {
             (with_notes self.old notes.old disk.old) (with_notes self.new notes.new disk.new) [] result }
     {
         match *packet {
-            Packet::UlGoResp { number, offset } => self.send_from(disk, notes, number, offset),
+            Packet::UlGoResp { number, offset } => {
+                self.send_from(disk, notes, FileNumber::new(number), offset)
+            }
             Packet::UlErrorResp(code) => self.end_by_error(disk, notes, code),
             _ => Ok(Some(strange(packet.kind()))),
         }
@@ -125,7 +128,7 @@ impl Upload {
         &mut self,
         disk: &mut D,
         notes: &mut Notes,
-        number: u32,
+        number: FileNumber,
         offset: u32,
     ) -> Result<Option<Ending>, Halt>
         requires { MayGo D.Disk notes.old disk.old self.old }
@@ -147,22 +150,27 @@ impl Upload {
     fn is_new(&self) -> bool
         ensures { result ≡ is_new_upload self.now }
     {
-        self.known == 0
+        self.known.get() == 0
     }
 
     /// Whether the file may be sent by a UL_GO_RESP with this number and offset.
-    fn may_go(&self, number: u32, offset: u32) -> bool
+    fn may_go(&self, number: FileNumber, offset: u32) -> bool
         ensures { result ≡ may_be_sent self.now number offset }
     {
         if self.is_new() {
-            0 < number && offset == 0
+            0 < number.get() && offset == 0
         } else {
             number == self.known && offset as usize <= self.file.len()
         }
     }
 
     /// Notes the number of a new file.
-    fn note_number<D: Disk>(&self, disk: &mut D, notes: &mut Notes, number: u32) -> Result<(), Halt>
+    fn note_number<D: Disk>(
+        &self,
+        disk: &mut D,
+        notes: &mut Notes,
+        number: FileNumber,
+    ) -> Result<(), Halt>
         requires go { MayGo D.Disk notes.old disk.old self.now }
         requires some { is_new_upload self.now ≡ true → 1 ≤ number }
         ensures { NotesAtOnce D.Disk notes.old notes.new disk.old disk.new (number_commands self.now number) result }
@@ -219,7 +227,7 @@ impl Upload {
         disk: &mut D,
         packet: &Packet<'_>,
         notes: &mut Notes,
-        number: u32,
+        number: FileNumber,
     ) -> Result<Option<Ending>, Halt>
         requires may { MayUpload D.Disk notes.old disk.old self.now }
         requires ack { self.now.phase ≡ UploadPhase.Ack number }
@@ -245,7 +253,8 @@ impl Upload {
     pub(crate) fn fill(&mut self, out: &mut ArrayVec<u8, 256>) -> bool
         ensures { PutsDue (upload_due self.old) result self.old self.new out.old.items out.new.items }
     {
-        let UploadPhase::Sending { number, place } = self.phase else {
+        let phase = self.phase;
+        let UploadPhase::Sending { number, place } = phase else {
             return false;
         };
         let part = self.part_at(place);
@@ -276,7 +285,7 @@ impl Upload {
 }
 
 /// The file of this number was acknowledged.
-fn acked(number: u32) -> Ending
+fn acked(number: FileNumber) -> Ending
     ensures { result ≡ ending_at_once (Outcome.Acked number) }
 {
     Ending::at_once(Outcome::Acked { number })

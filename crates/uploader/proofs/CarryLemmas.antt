@@ -5,7 +5,7 @@ use Rattle.client_notes.specs.Laws.{after_all}
 use Rattle.node.specs.Turns as turns
 use Rattle.node.specs.declared.finished.Finished.TheVariants as finished
 use Rattle.node.specs.declared.stop.NodeStop.TheVariants as node
-use Rattle.ftl0_client.specs.declared.outcome.Outcome.TheVariants as outcome
+use Rattle.ftl0_client.specs.Outcome.TheVariants as outcome
 use Rattle.uploader.specs.declared.stop.SendStop.TheVariants as stop
 use Rattle.uploader.specs.Causes.{HasAirCause}
 use Rattle.client_notes.specs.declared.answers.Noted.TheVariants as noted
@@ -59,13 +59,13 @@ of_turns P down read write disk spent memory (Err why) polls heard ends = absurd
 -- what holds of each stop that an outcome is, and of the one that these turns are
 module _ (P : SendStop → Type 0) (refused : (code : ℕ) → P (stop.Refused code)) (bad : (code : ℕ) → P (stop.BadFile code)) (down : P stop.LinkDown) (strange : (kind : ℕ) → P (stop.Strange kind))
     (ended : Result Finished NodeStop) (turned : P (stop_of_turns ended)) where
-  pub of_answer : (reached : Outcome) (s : SendStop) → answer_of ended reached ≡ Err s → P s
-  of_answer outcome.Working s is = subst P (error-is Outcome (stop_of_turns ended) s is) turned
-  of_answer (outcome.Refused code) s is = subst P (error-is Outcome (stop.Refused code) s is) (refused code)
-  of_answer (outcome.BadFile code) s is = subst P (error-is Outcome (stop.BadFile code) s is) (bad code)
-  of_answer (outcome.LinkDown why) s is = subst P (error-is Outcome stop.LinkDown s is) down
-  of_answer (outcome.Strange kind) s is = subst P (error-is Outcome (stop.Strange kind) s is) (strange kind)
-  of_answer reached s is = absurd (cc is)
+  pub of_answer : (reached : Option Outcome) (s : SendStop) → answer_of ended reached ≡ Err s → P s
+  of_answer None s is = subst P (error-is Outcome (stop_of_turns ended) s is) turned
+  of_answer (Some (outcome.Refused code)) s is = subst P (error-is Outcome (stop.Refused code) s is) (refused code)
+  of_answer (Some (outcome.BadFile code)) s is = subst P (error-is Outcome (stop.BadFile code) s is) (bad code)
+  of_answer (Some (outcome.LinkDown why)) s is = subst P (error-is Outcome stop.LinkDown s is) down
+  of_answer (Some (outcome.Strange kind)) s is = subst P (error-is Outcome (stop.Strange kind) s is) (strange kind)
+  of_answer (Some reached) s is = absurd (cc is)
 
 -- whether a job's carrying out may stop so
 abbrev pub is_carried : SendStop → Bool
@@ -97,7 +97,7 @@ node-of node.AirRead = refl
 node-of why = refl
 
 -- it stops by the node exactly where the turns ended by that
-pub turned : (ended : Result Finished NodeStop) (reached : Outcome) (why : NodeStop) → answer_of ended reached ≡ Err (stop_of_node why) → ended ≡ Err why
+pub turned : (ended : Result Finished NodeStop) (reached : Option Outcome) (why : NodeStop) → answer_of ended reached ≡ Err (stop_of_node why) → ended ≡ Err why
 unfolding node_of
 turned ended reached why is =
     of_answer (λ s. node_of s ≡ Some why → ended ≡ Err why) (λ code e. absurd (cc e)) (λ code e. absurd (cc e)) (λ e. absurd (cc e)) (λ kind e. absurd (cc e)) ended (by ended) reached (stop_of_node why) is (node-of why)
@@ -123,7 +123,7 @@ module _ (reads reads_n writes writes_n : ℕ) where
   if-err (Ok value) P h = tt
   if-err (Err why) P h = h why refl
 
-  air-cause : (ended : Result Finished NodeStop) (reached : Outcome) (result : Result Outcome SendStop) → result ≡ answer_of ended reached → CountsWhere reads reads_n (IsErrOf ended node.AirRead)
+  air-cause : (ended : Result Finished NodeStop) (reached : Option Outcome) (result : Result Outcome SendStop) → result ≡ answer_of ended reached → CountsWhere reads reads_n (IsErrOf ended node.AirRead)
       → CountsWhere writes writes_n (IsErrOf ended node.AirWrite) → HasAirCause reads reads_n writes writes_n result
   air-cause ended reached result is h k = record {
     read = λ e. h.rose (turned ended reached node.AirRead (sym is ∙ e));
@@ -186,7 +186,7 @@ module _ {A C D : Type 0} (see : Seen D A C) (old new : Lent D A C) where
 -- ---- the whole
 
 -- nothing is cut off but where the disk failed
-cut-none : (ended : Result Finished NodeStop) (least : List ClientEvent) (client : Client) (events : List ClientEvent) (reached : Outcome) (text : List ℕ) (done cut : List NotesCommand)
+cut-none : (ended : Result Finished NodeStop) (least : List ClientEvent) (client : Client) (events : List ClientEvent) (reached : Option Outcome) (text : List ℕ) (done cut : List NotesCommand)
     → ¬ (ended ≡ Err node.Disk) → EndsOver ended least client events reached text done cut → cut ≡ []
 cut-none (Ok finished.Over) least client events reached text done cut fine h = h.4
 cut-none (Ok (finished.Closed count)) least client events reached text done cut fine h = h.4
@@ -249,7 +249,7 @@ module _ {A C D : Type 0} (see : Seen D A C) (on : (first second third : D) → 
   through = goes_through see.disk on Failed old.disk h.mid new.disk h.made.notes h.end.notes (first ++ run.done) run.cut h.ready.recovers cuts
 
   -- where the disk failed nothing had become of the job
-  pub failed-working : Failed → run.reached ≡ outcome.Working
+  pub failed-working : Failed → run.reached ≡ None
   failed-working is =
       (subst (λ (e : Result Finished NodeStop). EndsOver e (before_last run.turns job h.out.ran.least) (client_from terms (after_all start first)) (asked_first job h.out.ran.events) run.reached run.text run.done run.cut) is h.out.ran.ends_over).stops.stops.4
 
@@ -300,31 +300,31 @@ module _ {A C D : Type 0} (see : Seen D A C) (on : (first second third : D) → 
   carried why is = of_answer (λ s. is_carried s ≡ true) (λ code. refl) (λ code. refl) refl (λ kind. refl) run.ended (of_turns (λ s. is_carried s ≡ true) refl refl refl refl refl refl run.ended _ _ h.out.ran.ends) run.reached why (sym h.out.answer ∙ is)
 
 -- an upload came to that its file was acknowledged, and that is noted
-pub upload-reached : (lists : Lists) (at : Upload) (listing : List ℕ) (ended : Result Finished NodeStop) (reached answer : Outcome) → (reached ≢ outcome.Working → Promises lists (work.Upload at) listing reached)
+pub upload-reached : (lists : Lists) (at : Upload) (listing : List ℕ) (ended : Result Finished NodeStop) (reached : Option Outcome) (answer : Outcome) → (reached ≢ None → Promises lists (work.Upload at) listing reached)
     → answer_of ended reached ≡ Ok answer → (number : ℕ) × (answer ≡ outcome.Acked number) × (noted_at lists at.task ≡ Some (noted.Acked at.task number))
-upload-reached lists at listing ended outcome.Idle answer h is = absurd (h (λ e. cc e))
-upload-reached lists at listing ended (outcome.Acked number) answer h is = (number, cc is, h (λ e. cc e))
-upload-reached lists at listing ended (outcome.Fetched number) answer h is = absurd (h (λ e. cc e))
-upload-reached lists at listing ended outcome.Listed answer h is = absurd (h (λ e. cc e))
-upload-reached lists at listing ended reached answer h is = absurd (cc is)
+upload-reached lists at listing ended None answer h is = absurd (cc is)
+upload-reached lists at listing ended (Some (outcome.Acked number)) answer h is = (number, cc is, h (λ e. cc e))
+upload-reached lists at listing ended (Some (outcome.Fetched number)) answer h is = absurd (h (λ e. cc e))
+upload-reached lists at listing ended (Some outcome.Listed) answer h is = absurd (h (λ e. cc e))
+upload-reached lists at listing ended (Some reached) answer h is = absurd (cc is)
 
 -- a download to that its file was fetched, which has no fault
-pub download-reached : (lists : Lists) (at : Download) (listing : List ℕ) (ended : Result Finished NodeStop) (reached answer : Outcome) → (reached ≢ outcome.Working → Promises lists (work.Download at) listing reached)
+pub download-reached : (lists : Lists) (at : Download) (listing : List ℕ) (ended : Result Finished NodeStop) (reached : Option Outcome) (answer : Outcome) → (reached ≢ None → Promises lists (work.Download at) listing reached)
     → answer_of ended reached ≡ Ok answer → (answer ≡ outcome.Fetched at.number) × (fault_code (got_of lists at.server at.number) ≡ None)
-download-reached lists at listing ended outcome.Idle answer h is = absurd (h (λ e. cc e))
-download-reached lists at listing ended (outcome.Acked number) answer h is = absurd (h (λ e. cc e))
-download-reached lists at listing ended (outcome.Fetched number) answer h is = (let e : answer ≡ outcome.Fetched number = cc is in e ∙ ap outcome.Fetched (h (λ e. cc e)).0, (h (λ e. cc e)).1)
-download-reached lists at listing ended outcome.Listed answer h is = absurd (h (λ e. cc e))
-download-reached lists at listing ended reached answer h is = absurd (cc is)
+download-reached lists at listing ended None answer h is = absurd (cc is)
+download-reached lists at listing ended (Some (outcome.Acked number)) answer h is = absurd (h (λ e. cc e))
+download-reached lists at listing ended (Some (outcome.Fetched number)) answer h is = (let e : answer ≡ outcome.Fetched number = cc is in e ∙ ap outcome.Fetched (h (λ e. cc e)).0, (h (λ e. cc e)).1)
+download-reached lists at listing ended (Some outcome.Listed) answer h is = absurd (h (λ e. cc e))
+download-reached lists at listing ended (Some reached) answer h is = absurd (cc is)
 
 -- a list to that it is whole short headers
-pub list-reached : (lists : Lists) (at : Directory) (listing : List ℕ) (ended : Result Finished NodeStop) (reached answer : Outcome) → (reached ≢ outcome.Working → Promises lists (work.Directory at) listing reached)
+pub list-reached : (lists : Lists) (at : Directory) (listing : List ℕ) (ended : Result Finished NodeStop) (reached : Option Outcome) (answer : Outcome) → (reached ≢ None → Promises lists (work.Directory at) listing reached)
     → answer_of ended reached ≡ Ok answer → (answer ≡ outcome.Listed) × (are_short_headers listing ≡ true)
-list-reached lists at listing ended outcome.Idle answer h is = absurd (h (λ e. cc e))
-list-reached lists at listing ended (outcome.Acked number) answer h is = absurd (h (λ e. cc e))
-list-reached lists at listing ended (outcome.Fetched number) answer h is = absurd (h (λ e. cc e))
-list-reached lists at listing ended outcome.Listed answer h is = (cc is, h (λ e. cc e))
-list-reached lists at listing ended reached answer h is = absurd (cc is)
+list-reached lists at listing ended None answer h is = absurd (cc is)
+list-reached lists at listing ended (Some (outcome.Acked number)) answer h is = absurd (h (λ e. cc e))
+list-reached lists at listing ended (Some (outcome.Fetched number)) answer h is = absurd (h (λ e. cc e))
+list-reached lists at listing ended (Some outcome.Listed) answer h is = (cc is, h (λ e. cc e))
+list-reached lists at listing ended (Some reached) answer h is = absurd (cc is)
 
 -- where each image stands for notes by which a task was acknowledged, it was in each
 pub acked-in : {D : Type 0} (g : Ghosts D) (disk : D) (lists : Lists) (task number : ℕ) → EachImage g disk (λ image. StandsFor image lists) → noted_at lists task ≡ Some (noted.Acked task number)
@@ -337,19 +337,19 @@ if-ok (Ok value) P holds = holds value refl
 if-ok (Err why) P holds = tt
 
 -- an upload that came to what a command asks for came to that its file was acknowledged
-pub acked-alone : (lists : Lists) (asked : Work) (listing : List ℕ) (ended : Result Finished NodeStop) (reached answer : Outcome) → IsUpload asked → (reached ≢ outcome.Working → Promises lists asked listing reached)
+pub acked-alone : (lists : Lists) (asked : Work) (listing : List ℕ) (ended : Result Finished NodeStop) (reached : Option Outcome) (answer : Outcome) → IsUpload asked → (reached ≢ None → Promises lists asked listing reached)
     → answer_of ended reached ≡ Ok answer → (number : ℕ) × (answer ≡ outcome.Acked number)
 acked-alone lists (work.Upload at) listing ended reached answer upload h is = let came = upload-reached lists at listing ended reached answer h is in (came.0, came.1)
 acked-alone lists (work.Directory at) listing ended reached answer upload h is = absurd upload
 acked-alone lists (work.Download at) listing ended reached answer upload h is = absurd upload
 
 -- an upload comes to no bad file
-pub never-bad : (lists : Lists) (at : Upload) (listing : List ℕ) (ended : Result Finished NodeStop) (reached : Outcome) (code : ℕ) (polls : ℕ) (turns : List Turn) → TurnsBy ended polls turns → (reached ≢ outcome.Working → Promises lists (work.Upload at) listing reached)
+pub never-bad : (lists : Lists) (at : Upload) (listing : List ℕ) (ended : Result Finished NodeStop) (reached : Option Outcome) (code : ℕ) (polls : ℕ) (turns : List Turn) → TurnsBy ended polls turns → (reached ≢ None → Promises lists (work.Upload at) listing reached)
     → ¬ (answer_of ended reached ≡ Err (stop.BadFile code))
-never-bad lists at listing ended outcome.Working code polls turns ends h is =
+never-bad lists at listing ended None code polls turns ends h is =
     of_turns (λ s. ¬ (s ≡ stop.BadFile code)) (λ e. cc e) (λ e. cc e) (λ e. cc e) (λ e. cc e) (λ e. cc e) (λ e. cc e) ended polls turns ends (let e : stop_of_turns ended ≡ stop.BadFile code = cc is in e)
-never-bad lists at listing ended (outcome.BadFile other) code polls turns ends h is = h (λ e. cc e)
-never-bad lists at listing ended reached code polls turns ends h is = cc is
+never-bad lists at listing ended (Some (outcome.BadFile other)) code polls turns ends h is = h (λ e. cc e)
+never-bad lists at listing ended (Some reached) code polls turns ends h is = cc is
 
 -- the notes go with the download that was just made
 pub download-goes : (lists : Lists) (server : CallSign) (number held : ℕ) → held ≡ length (got_of lists server number) → held ≤ longest_file → (job : JobState) → job ≡ new_job (work.Download (new_download server number))

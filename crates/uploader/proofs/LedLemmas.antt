@@ -1,7 +1,6 @@
 -- A command that carried out a job comes to what the definition makes of it over all that was heard.
-use Rattle.std.proofs.Common.{◌≡◌, ℕ, List, [], ◌∷◌, ◌++◌, refl, ap, sym, subst, ◌∙◌, inl, inr, Bool, true, false, append_assoc, ◌≢◌, Option, Some, Result, Ok, Err, map}
+use Rattle.std.proofs.Common.{◌≡◌, ℕ, List, [], ◌∷◌, ◌++◌, refl, ap, sym, subst, ◌∙◌, inl, inr, Bool, true, false, append_assoc, ◌≢◌, Option, None, Some, Result, Ok, Err, map}
 use Rattle.node.specs.declared.finished.Finished.TheVariants as finished
-use Rattle.ftl0_client.specs.declared.outcome.Outcome.TheVariants as outcome
 use Rattle.node.specs.declared.stop.NodeStop.TheVariants as node
 use Rattle.uploader.proofs.Names.{append_cancel_left, AllByRecursion, Grows, Turn, FrameValue, NodeEvent, NodeEvents, OneRunLaw, Seen, TurnsBy, Finished, NotesCommand, JobState, Client, ClientEvent, asks, AsksNothing, GoesOver, StaysLaw, OneStepLaw, outcome_by, Outcome, EndsOver, asked_first, before_last, StopsBehind, TakesAll, event_of, NodeStop, SendStop, client_of, answer_of, by_outcome, stop_of_turns}
 use Rattle.uploader.proofs.turns.CourseLemmas.{goes-alike, goes-append, goes-one, nothing-asked}
@@ -82,25 +81,25 @@ asked-up job events (event ∷ before) next later is =
 -- ---- the answer of the turns
 
 -- either nothing became of the job, and it is the turns' stop, or something did, and it is that
-at-stop : (ended : Result Finished NodeStop) (reached : Outcome) (P : Result Outcome SendStop → Type 0) → (reached ≡ outcome.Working → P (Err (stop_of_turns ended))) → (reached ≢ outcome.Working → P (by_outcome reached))
+at-stop : (ended : Result Finished NodeStop) (reached : Option Outcome) (P : Result Outcome SendStop → Type 0) → (reached ≡ None → P (Err (stop_of_turns ended))) → ((some : Outcome) → reached ≡ Some some → P (by_outcome some))
     → P (answer_of ended reached)
-at-stop ended outcome.Working P stopped came = stopped refl
-at-stop ended reached P stopped came = came (λ e. cc e)
+at-stop ended None P stopped came = stopped refl
+at-stop ended (Some some) P stopped came = came some refl
 
 -- ---- what was reached
 
 module _ (steps : OneStepLaw) (stays : StaysLaw) (client : Client) where
   -- over all events it is what the definition leads to
-  taken-same : (events : List ClientEvent) (over : Bool) (got reached : Outcome) (text : List ℕ) (done cut : List NotesCommand) (frames : List FrameValue) (commands : List NotesCommand) (now : Client)
+  taken-same : (events : List ClientEvent) (over : Bool) (got reached : Option Outcome) (text : List ℕ) (done cut : List NotesCommand) (frames : List FrameValue) (commands : List NotesCommand) (now : Client)
       → TakesAll client events over got text done cut → GoesOver client events frames commands now → outcome_by now.attempt ≡ reached → got ≡ reached
   taken-same events over got reached text done cut frames commands now taken goes is =
       let same : taken.1 ≡ now = goes-alike steps client events taken.0 frames done commands taken.1 now taken.2 goes in
       taken.5 ∙ ap (λ (c : Client). outcome_by c.attempt) same ∙ is
 
   -- where a put failed behind what became of the job, that stays over all that is behind it
-  unsaid-same : (job : JobState) (least : List ClientEvent) (events : List NodeEvent) (got reached : Outcome) (text : List ℕ) (done cut : List NotesCommand) (frames : List FrameValue) (commands : List NotesCommand)
+  unsaid-same : (job : JobState) (least : List ClientEvent) (events : List NodeEvent) (got reached : Option Outcome) (text : List ℕ) (done cut : List NotesCommand) (frames : List FrameValue) (commands : List NotesCommand)
       (now : Client) → StopsBehind least client (asked_first job events) node.AirWrite got text done cut → GoesOver client (asked_first job events) frames commands now → outcome_by now.attempt ≡ reached
-      → got ≢ outcome.Working → got ≡ reached
+      → got ≢ None → got ≡ reached
   unsaid-same job least events got reached text done cut frames commands now h goes is some =
       let s = h.stops in
       let at = s.stops in
@@ -117,14 +116,14 @@ module _ (steps : OneStepLaw) (stays : StaysLaw) (client : Client) where
       came ∙ sym stayed ∙ is
 
   -- by how the turns ended
-  module _ (job : JobState) (polls : ℕ) (turns : List Turn) (least : List ClientEvent) (events : List NodeEvent) (got reached : Outcome) (text : List ℕ) (done cut : List NotesCommand) (frames : List FrameValue)
+  module _ (job : JobState) (polls : ℕ) (turns : List Turn) (least : List ClientEvent) (events : List NodeEvent) (got reached : Option Outcome) (text : List ℕ) (done cut : List NotesCommand) (frames : List FrameValue)
       (commands : List NotesCommand) (now : Client) (goes : GoesOver client (asked_first job events) frames commands now) (is : outcome_by now.attempt ≡ reached) where
     abbrev Comes : Result Finished NodeStop → Type 0
     Comes ended = ComesBy polls turns reached (answer_of ended got)
 
     -- something became of the job, which the definition leads to
-    came-to : got ≡ reached → got ≢ outcome.Working → ComesBy polls turns reached (by_outcome got)
-    came-to same some = inl ((λ working. some (same ∙ working)), ap by_outcome same)
+    came-to : got ≡ reached → (some : Outcome) → got ≡ Some some → ComesBy polls turns reached (by_outcome some)
+    came-to same some is = inl (some, sym same ∙ is, refl)
 
     of-turns : (ended : Result Finished NodeStop) (over : Bool) → is_of_turns ended ≡ true → TurnsBy ended polls turns → TakesAll client (asked_first job events) over got text done cut → Comes ended
     of-turns ended over of ends h =
@@ -133,10 +132,10 @@ module _ (steps : OneStepLaw) (stays : StaysLaw) (client : Client) where
         (λ working. inr (inl (record { ended = ended; of_turns = of; working = sym same ∙ working; ends = ends; came_is = refl }))) (came-to same)
 
     -- it was cut short before anything became of the job
-    cut-short : (ended : Result Finished NodeStop) → IsCutShort (Err (stop_of_turns ended)) → got ≡ outcome.Working → Comes ended
-    cut-short ended short working = at-stop ended got (λ (r : Result Outcome SendStop). ComesBy polls turns reached r) (λ still. inr (inr short)) (λ some. absurd (some working))
+    cut-short : (ended : Result Finished NodeStop) → IsCutShort (Err (stop_of_turns ended)) → got ≡ None → Comes ended
+    cut-short ended short working = at-stop ended got (λ (r : Result Outcome SendStop). ComesBy polls turns reached r) (λ still. inr (inr short)) (λ some is. let no : Some some ≡ None = sym is ∙ working in absurd (cc no))
 
-    comes-by : (ended : Result Finished NodeStop) → (ended ≡ Ok finished.Over → got ≢ outcome.Working) → TurnsBy ended polls turns → EndsOver ended least client (asked_first job events) got text done cut → Comes ended
+    comes-by : (ended : Result Finished NodeStop) → (ended ≡ Ok finished.Over → got ≢ None) → TurnsBy ended polls turns → EndsOver ended least client (asked_first job events) got text done cut → Comes ended
     comes-by (Ok finished.Over) over ends h =
         at-stop (Ok finished.Over) got (λ (r : Result Outcome SendStop). ComesBy polls turns reached r) (λ working. absurd (over refl working))
         (came-to (taken-same (asked_first job events) true got reached text done cut frames commands now h goes is))
@@ -145,7 +144,7 @@ module _ (steps : OneStepLaw) (stays : StaysLaw) (client : Client) where
     comes-by (Err node.Spent) over ends h = of-turns (Err node.Spent) false refl ends h
     comes-by (Err node.AirWrite) over ends h =
         at-stop (Err node.AirWrite) got (λ (r : Result Outcome SendStop). ComesBy polls turns reached r) (λ working. inr (inr (inl refl)))
-        (λ some. came-to (unsaid-same job least events got reached text done cut frames commands now h goes is some) some)
+        (λ some so. came-to (unsaid-same job least events got reached text done cut frames commands now h goes is (λ none. let no : Some some ≡ None = sym so ∙ none in cc no)) some so)
     comes-by (Err node.Disk) over ends h = cut-short (Err node.Disk) (inr (inl refl)) h.stops.stops.4
     comes-by (Err node.OutOfMemory) over ends h = cut-short (Err node.OutOfMemory) (inr (inr refl)) h.stops.stops.5
     comes-by (Err why) over ends h = absurd h

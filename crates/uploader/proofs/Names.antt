@@ -20,10 +20,10 @@ pub use Rattle.ftl0_client.specs.Going.{AsksNothing, Comes, GoesLaw, GoesOver, P
 pub use Rattle.ftl0_client.specs.JobLaws.{IsAckedIn}
 pub use Rattle.ftl0_client.specs.JobState.{IsNew, NotesGoWith}
 pub use Rattle.ftl0_client.specs.Laws.{IsToldDownOf, OneStepLaw}
-pub use Rattle.ftl0_client.specs.Outcomes.{outcome_as, outcome_by}
+pub use Rattle.ftl0_client.specs.Outcomes.{is_under_way, outcome_by}
 pub use Rattle.ftl0_client.specs.Table.{JobState, job_row, listing_of, new_job}
 pub use Rattle.ftl0_client.specs.Upload.{Upload, new_upload}
-pub use Rattle.ftl0_client.specs.declared.outcome.Outcome.{Outcome}
+pub use Rattle.ftl0_client.specs.Outcome.{Outcome}
 pub use Rattle.node.specs.Course.{AtDisk, GaveAll, GivesNext, IsLawful, at, stop_at_put, stop_of}
 pub use Rattle.node.specs.Events.{NodeEvent, NodeEvents, ticks}
 pub use Rattle.node.specs.Laws.{OneRunLaw}

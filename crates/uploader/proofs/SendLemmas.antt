@@ -5,7 +5,7 @@ use Rattle.client_notes.specs.declared.answers.Begun.TheVariants as begun
 use Rattle.client_notes.specs.declared.answers.Noted.TheVariants as noted
 use Rattle.client_notes.specs.declared.refusals.NotesRefusal.TheVariants as refusal
 use Rattle.node.specs.Turns as turns
-use Rattle.ftl0_client.specs.declared.outcome.Outcome.TheVariants as outcome
+use Rattle.ftl0_client.specs.Outcome.TheVariants as outcome
 use Rattle.uploader.specs.declared.stop.SendStop.TheVariants as stop
 use Rattle.uploader.proofs.Names.{common_steps, CallSign, Holding, content_of, fault_code, Ghosts, Runs, acked-last, alike_same, begun-fresh, begun-kept, goes_through, images-here, not-failed, of_task, recovered-ready, Several-none, Several-one, Several-same, stops_none, told_weaker, state, StartsBy, fresh_task, start_reaches, NotesCommand, Begun, NotesRefusal, Lists, last_task, Does, EachImage, Untouched, CutsOff, DoesSeveral, IsReady, NotesState, StandsFor, standing_of, Lent, Seen, lent, IsAckedIn, JobState, new_upload, Client, ClientState, GoWithAttempt, IsClient, MayHear, client_pending, listing_in, Outcome, CarriesOut, MayCarryOut, SendStop, FileSum, ClientTerms, Sent, client_from, HasCauses, HasShelfCause, IsPastFile, IsSendable, IsUnfit, LoadsExactly, RefusesFile, sum_of, RefusesNotes, RecoversClient, UploadsJob, EndsAtStart, IsLastAcked, IsTaskFor, IsUnstarted, SendEnds, Uploads, first_command, last_answer, upload_of, stop_of_start}
 use Rattle.uploader.proofs.CarryLemmas.{acked-in, carries, causes, causes-err, causes-late, causes-still, HasCarried, images-at-end, never, never-bad, of_answer, of_turns, outcome-fine, recovered_exactly, upload-reached}

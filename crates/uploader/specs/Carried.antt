@@ -17,7 +17,7 @@ use Rattle.client_notes.specs.StoreFault.{StoreFault}
 use Rattle.ftl0_client.specs.Window.{window_of}
 use Rattle.ftl0_client.specs.Table.{JobState}
 use Rattle.ftl0_client.specs.Client.{Client, new_client}
-use Rattle.ftl0_client.specs.declared.outcome.Outcome.{Outcome}
+use Rattle.ftl0_client.specs.Outcome.{Outcome}
 use Rattle.uploader.specs.declared.stop.SendStop.{SendStop}
 use Rattle.uploader.specs.declared.terms.ClientTerms.{ClientTerms}
 use Rattle.uploader.specs.Stops.{answer_of, stop_of_fault}

@@ -8,8 +8,8 @@ use Rattle.client_notes.specs.Notes.{Lists, got_of}
 use Rattle.ftl0_client.specs.Work.TheVariants as work
 use Rattle.ftl0_client.specs.Download.{new_download}
 use Rattle.ftl0_client.specs.Table.{JobState, new_job}
-use Rattle.ftl0_client.specs.declared.outcome.Outcome.{Outcome}
-use Rattle.ftl0_client.specs.declared.outcome.Outcome.TheVariants as outcome
+use Rattle.ftl0_client.specs.Outcome.{Outcome}
+use Rattle.ftl0_client.specs.Outcome.TheVariants as outcome
 use Rattle.uploader.specs.declared.stop.SendStop.{SendStop}
 use Rattle.uploader.specs.declared.stop.SendStop.TheVariants as stop
 use Rattle.uploader.specs.declared.terms.ClientTerms.{ClientTerms}

@@ -1,5 +1,5 @@
 -- What the definition makes of a job over all that was heard, and that a command comes to exactly that.
-use Rattle.std.specs.Prelude.{◌≡◌, ◌≢◌, ◌⊎◌, ℕ, List, ◌++◌, Bool, true, false, Some, Result, Ok, Err}
+use Rattle.std.specs.Prelude.{◌≡◌, ◌⊎◌, ℕ, List, ◌++◌, Bool, true, false, Option, None, Some, Result, Ok, Err}
 use Rattle.px_base.specs.declared.air.Turn.{Turn}
 use Rattle.ax25_frames.specs.FrameText.{FrameValue}
 use Rattle.node.specs.Events.{NodeEvent, NodeEvents}
@@ -14,8 +14,7 @@ use Rattle.ftl0_client.specs.Table.{JobState}
 use Rattle.ftl0_client.specs.Client.{Client}
 use Rattle.ftl0_client.specs.Going.{GoesOver}
 use Rattle.ftl0_client.specs.Outcomes.{outcome_by}
-use Rattle.ftl0_client.specs.declared.outcome.Outcome.{Outcome}
-use Rattle.ftl0_client.specs.declared.outcome.Outcome.TheVariants as outcome
+use Rattle.ftl0_client.specs.Outcome.{Outcome}
 use Rattle.uploader.specs.declared.stop.SendStop.{SendStop}
 use Rattle.uploader.specs.declared.stop.SendStop.TheVariants as stop
 use Rattle.uploader.specs.Carried.{Asked, Carries, client_of}
@@ -25,7 +24,7 @@ use Rattle.uploader.specs.Turns.Carried.{asked_first}
 -- The definition leads this client that is asked for this job to this outcome, over all that these turns bring at these
 -- moments.
 pub record LeadsTo (client : Client) (job : JobState) (turns : List Turn) (moments : List ℕ)
-    (reached : Outcome) : Type 0 where
+    (reached : Option Outcome) : Type 0 where
   pub events : List NodeEvent
   pub brings : NodeEvents client.me turns moments events
   pub frames : List FrameValue
@@ -46,7 +45,7 @@ pub record IsToldOf {A C D : Type 0} (see : Seen D A C) (old new : Lent D A C) (
 
 -- What is told leads the client that is asked, by the definition, to this outcome.
 pub record IsLedTo {A C D : Type 0} (see : Seen D A C) (old new : Lent D A C) (asked : Asked) (turns : List Turn)
-    (reached : Outcome) : Type 0 where
+    (reached : Option Outcome) : Type 0 where
   pub moments : List ℕ
   pub told : IsToldOf see old new turns moments
   pub leads : LeadsTo (client_of asked) asked.job turns moments reached
@@ -65,11 +64,11 @@ is_of_turns (Err (node.NotAStore found)) = false
 is_of_turns (Err (node.Damaged at)) = false
 
 -- Nothing became of the job, and the turns, of which there are at most so many, ended so.
-pub record EndsWithTurns (polls : ℕ) (turns : List Turn) (reached : Outcome) (came : Result Outcome SendStop)
-    : Type 0 where
+pub record EndsWithTurns (polls : ℕ) (turns : List Turn) (reached : Option Outcome)
+    (came : Result Outcome SendStop) : Type 0 where
   pub ended : Result Finished NodeStop
   pub of_turns : is_of_turns ended ≡ true
-  pub working : reached ≡ outcome.Working
+  pub working : reached ≡ None
   pub ends : TurnsBy ended polls turns
   pub came_is : came ≡ Err (stop_of_turns ended)
 
@@ -79,14 +78,14 @@ IsCutShort came = (came ≡ Err stop.AirWrite) ⊎ ((came ≡ Err stop.Disk) ⊎
 
 -- What a command comes to, over these turns, of which there are at most so many, where the definition leads it to this
 -- outcome: that, if something became of the job by it; else it ended with its turns. Or it was cut short.
-abbrev pub ComesBy : ℕ → List Turn → Outcome → Result Outcome SendStop → Type 0
+abbrev pub ComesBy : ℕ → List Turn → Option Outcome → Result Outcome SendStop → Type 0
 ComesBy polls turns reached came =
-    ((reached ≢ outcome.Working) × (came ≡ by_outcome reached))
+    ((some : Outcome) × (reached ≡ Some some) × (came ≡ by_outcome some))
     ⊎ (EndsWithTurns polls turns reached came ⊎ IsCutShort came)
 
 -- A command that carried out a job comes to what the definition makes of it over what is told.
 abbrev pub LedLaw : {A C D : Type 0} → Seen D A C → Type 0
 LedLaw {A} {C} {D} see =
-    (old new : Lent D A C) (asked : Asked) (came : Result Outcome SendStop) (turns : List Turn) (reached : Outcome)
-    → Carries see old new asked came → IsLedTo see old new asked turns reached
+    (old new : Lent D A C) (asked : Asked) (came : Result Outcome SendStop) (turns : List Turn)
+    (reached : Option Outcome) → Carries see old new asked came → IsLedTo see old new asked turns reached
     → ComesBy asked.terms.polls turns reached came

@@ -17,8 +17,8 @@ use Rattle.ftl0_client.specs.Work.TheVariants as work
 use Rattle.ftl0_client.specs.JobLaws.{IsAckedIn}
 use Rattle.ftl0_client.specs.Table.{JobState, new_job}
 use Rattle.ftl0_client.specs.Upload.{new_upload}
-use Rattle.ftl0_client.specs.declared.outcome.Outcome.{Outcome}
-use Rattle.ftl0_client.specs.declared.outcome.Outcome.TheVariants as outcome
+use Rattle.ftl0_client.specs.Outcome.{Outcome}
+use Rattle.ftl0_client.specs.Outcome.TheVariants as outcome
 use Rattle.uploader.specs.declared.stop.SendStop.{SendStop}
 use Rattle.uploader.specs.declared.stop.SendStop.TheVariants as stop
 use Rattle.uploader.specs.declared.sum.FileSum.{FileSum}

@@ -1,13 +1,13 @@
 -- How the stops of a command's parts stop it.
-use Rattle.std.specs.Prelude.{Result, Ok, Err}
+use Rattle.std.specs.Prelude.{Option, None, Some, Result, Ok, Err}
 use Rattle.px_base.specs.declared.shelf.ShelfRefusal.{ShelfRefusal}
 use Rattle.px_base.specs.declared.shelf.ShelfRefusal.TheVariants as shelf
 use Rattle.client_notes.specs.declared.refusals.NotesRefusal.{NotesRefusal}
 use Rattle.client_notes.specs.declared.refusals.NotesRefusal.TheVariants as refusal
 use Rattle.client_notes.specs.StoreFault.{StoreFault}
 use Rattle.client_notes.specs.StoreFault.TheVariants as fault
-use Rattle.ftl0_client.specs.declared.outcome.Outcome.{Outcome}
-use Rattle.ftl0_client.specs.declared.outcome.Outcome.TheVariants as outcome
+use Rattle.ftl0_client.specs.Outcome.{Outcome}
+use Rattle.ftl0_client.specs.Outcome.TheVariants as outcome
 use Rattle.node.specs.declared.finished.Finished.{Finished}
 use Rattle.node.specs.declared.stop.NodeStop.{NodeStop}
 use Rattle.node.specs.declared.stop.NodeStop.TheVariants as node
@@ -62,10 +62,8 @@ by_outcome (outcome.Strange kind) = Err (stop.Strange kind)
 by_outcome (outcome.Acked number) = Ok (outcome.Acked number)
 by_outcome (outcome.Fetched number) = Ok (outcome.Fetched number)
 by_outcome outcome.Listed = Ok outcome.Listed
-by_outcome outcome.Idle = Ok outcome.Idle
-by_outcome outcome.Working = Ok outcome.Working
 
 -- what a command makes of its turns: what became of the job, or why they ended before anything did
-abbrev pub answer_of : Result Finished NodeStop → Outcome → Result Outcome SendStop
-answer_of ended outcome.Working = Err (stop_of_turns ended)
-answer_of ended reached = by_outcome reached
+abbrev pub answer_of : Result Finished NodeStop → Option Outcome → Result Outcome SendStop
+answer_of ended None = Err (stop_of_turns ended)
+answer_of ended (Some reached) = by_outcome reached

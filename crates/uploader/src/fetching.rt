@@ -14,7 +14,7 @@ use crate::turns::carry_out;
 use crate::{ClientTerms, SendStop};
 use disk_model::Disk;
 use ftl0_client::Job;
-use px_base::{Air, Clock, Shelf};
+use px_base::{Air, Clock, FileNumber, Shelf};
 use std::alloc::Global;
 
 /// Fetches the file of this number, which isn't 0, from the server, and keeps it on the shelf under this name. The
@@ -33,7 +33,7 @@ pub fn fetch<D: Disk, A: Air, S: Shelf, C: Clock>(
     shelf: &mut S,
     clock: &mut C,
     terms: &ClientTerms,
-    number: u32,
+    number: FileNumber,
     name: &str,
 ) -> Result<(), SendStop>
     requires window { IsGoodK terms.now.k }

@@ -22,7 +22,7 @@ use crate::{ClientTerms, FileSum, SendStop, Sent};
 use client_notes::{Begun, NotesRefusal};
 use disk_model::Disk;
 use ftl0_client::{Client, Job, Outcome};
-use px_base::{Air, Clock, Shelf};
+use px_base::{Air, Clock, FileNumber, Shelf};
 use std::alloc::Global;
 
 /// Sends the file that the shelf has under this name, 1 to 64 octets, to the server. The file, of at most 4,194,304
@@ -66,22 +66,24 @@ pub fn send<D: Disk, A: Air, S: Shelf, C: Clock>(
     let sum = sum_of_file(file.as_slice());
     let mut client = recover_client(alloc, disk, terms)?;
     match client.start_task(disk, name, sum.length, sum.digest) {
-        Ok(Begun::Already { number }) => {
-            let_go(client);
-            Ok(Sent { number })
-        }
-        Ok(Begun::Fresh { task }) => {
-            let job = Job::upload(task, 0, file);
-            let (client, sent) = upload(alloc, client, job, disk, air, clock, terms.polls);
-            let_go(client);
-            sent
-        }
-        Ok(Begun::Going { task, number }) => {
-            let job = Job::upload(task, number, file);
-            let (client, sent) = upload(alloc, client, job, disk, air, clock, terms.polls);
-            let_go(client);
-            sent
-        }
+        Ok(begun) => match begun {
+            Begun::Already { number } => {
+                let_go(client);
+                Ok(Sent { number })
+            }
+            Begun::Fresh { task } => {
+                let job = Job::upload(task, FileNumber::new(0), file);
+                let (client, sent) = upload(alloc, client, job, disk, air, clock, terms.polls);
+                let_go(client);
+                sent
+            }
+            Begun::Going { task, number } => {
+                let job = Job::upload(task, number, file);
+                let (client, sent) = upload(alloc, client, job, disk, air, clock, terms.polls);
+                let_go(client);
+                sent
+            }
+        },
         Err(refusal) => {
             let_go(client);
             Err(stop_of_refusal(refusal, sum))

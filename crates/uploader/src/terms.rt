@@ -1,6 +1,6 @@
 //! With what a client's command is carried out, and what it gives.
 
-use px_base::Call;
+use px_base::{Call, FileNumber};
 
 /// With what a client's command is carried out.
 #[derive(Clone, Copy)]
@@ -19,5 +19,5 @@ pub struct ClientTerms {
 #[derive(Clone, Copy, Debug, PartialEq, Eq)]
 pub struct Sent {
     /// Its number on the server.
-    pub number: u32,
+    pub number: FileNumber,
 }

@@ -90,4 +90,4 @@ acked-law w lists a frame at number is has got =
     (λ lists at item noted h.
     acks-behind lists (item_row at item).commands noted at.task number
     (subst (λ (task : ℕ). AcknowledgesIn (after_all lists (item_row at item).commands) task number noted) (task-item at item) h))
-    (λ kind same. cc same) w lists a frame at is has got
+    (λ kind same. cc same) (λ why same. cc same) w lists a frame at is has got

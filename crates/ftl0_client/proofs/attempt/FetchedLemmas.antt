@@ -72,4 +72,4 @@ behind-item number lists at item noted h =
 
 pub fetched-law : FetchedLaw
 fetched-law w lists a frame at number is has got =
-    reaches work.Download item_row HasGot (IsFetchedBy number) (outcome.Fetched number) row-is goes-item (ends-item number) (behind-item number) (λ kind no. cc no) w lists a frame at is has got
+    reaches work.Download item_row HasGot (IsFetchedBy number) (outcome.Fetched number) row-is goes-item (ends-item number) (behind-item number) (λ kind no. cc no) (λ why no. cc no) w lists a frame at is has got

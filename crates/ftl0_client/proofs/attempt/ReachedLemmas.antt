@@ -2,7 +2,7 @@
 use Rattle.std.proofs.Common.{◌≡◌, ℕ, Bool, true, false, List, [], ◌∷◌, ◌++◌, refl, ap, sym, ◌∙◌, subst}
 use Rattle.ftl0_job.specs.declared.ending.Outcome.{Outcome}
 use Rattle.ftl0_job.specs.declared.ending.Outcome.TheVariants as outcome
-use Rattle.ftl0_client.proofs.Names.{Option, None, Some, option_map, FrameValue, Why, after_frame, heard_of, Window, kind_of_item, texts, Item, fits, NotesCommand, after_all, Lists, Ending, Work, DuePacket, due_by, in_job, work_due, reached, Row, strange_ending, JobState, job_after, job_row, new_job, row_of, Reached, Attempted, outcome_by, outcome_of, after_hearing, hearing, packets_heard, with_end, settled, Happened, after_replies, answering, taking, taking_by, taking_one}
+use Rattle.ftl0_client.proofs.Names.{Option, None, Some, option_map, same_Some, FrameValue, Why, after_frame, heard_of, Window, kind_of_item, texts, Item, fits, NotesCommand, after_all, Lists, Ending, Work, DuePacket, due_by, in_job, work_due, reached, Row, strange_ending, JobState, job_after, job_row, new_job, row_of, Attempted, outcome_by, outcome_of, after_hearing, hearing, packets_heard, with_end, settled, Happened, after_replies, answering, taking, taking_by, taking_one}
 use Rattle.ftl0_client.proofs.attempt.EndedLemmas.{taking-ended, told-job}
 use Rattle.ftl0_client.proofs.attempt.SettlingLemmas.{settled-keeps}
 
@@ -20,10 +20,11 @@ settled-ending : (a : Attempted) → (settled a).job.ending ≡ a.job.ending
 settled-ending a =
     settled-keeps (λ (now : Attempted). now.job.ending ≡ a.job.ending) (λ now due is same. due-ending now.job.ending now.job.work due is ∙ same) (λ now same. same) a refl
 
-reached-by : (o : Option Ending) (down : Option Why) (of : Outcome) → outcome_by o down ≡ Some (Reached of) → (e : Ending) × (o ≡ Some e) × (e.outcome ≡ of)
-reached-by None None of is = absurd (cc is)
-reached-by None (Some why) of is = absurd (cc is)
-reached-by (Some ending) down of is = (ending, refl, cc is)
+-- an outcome that isn't that of a link is how the job ended
+reached-by : (o : Option Ending) (down : Option Why) (of : Outcome) → ((why : Why) → outcome.LinkDown why ≡ of → ⊥) → outcome_by o down ≡ Some of → (e : Ending) × (o ≡ Some e) × (e.outcome ≡ of)
+reached-by None None of not is = absurd (cc is)
+reached-by None (Some why) of not is = absurd (not why (same_Some (outcome.LinkDown why) of is))
+reached-by (Some ending) down of not is = (ending, refl, same_Some ending.outcome of is)
 
 -- ---- packets
 
@@ -34,7 +35,7 @@ module _ {S : Type 0} (made : S → Work) (item_row : Lists → S → Item → R
     (ends : (lists : Lists) (at : S) (item : Item) → Has lists at → reached (item_row lists at item) ≡ Some result → Shows lists at ((item_row lists at item).commands ++ []))
     (behind : (lists : Lists) (at : S) (item : Item) (noted : List NotesCommand) → Shows (after_all lists (item_row lists at item).commands) (item_row lists at item).state noted
     → Shows lists at ((item_row lists at item).commands ++ noted))
-    (other : (kind : ℕ) → outcome.Strange kind ≡ result → ⊥) where
+    (other : (kind : ℕ) → outcome.Strange kind ≡ result → ⊥) (not_link : (why : Why) → outcome.LinkDown why ≡ result → ⊥) where
   -- what packets come to
   abbrev Reaches : List Item → Ending → Type 0
   Reaches items e =
@@ -87,11 +88,11 @@ module _ {S : Type 0} (made : S → Work) (item_row : Lists → S → Item → R
 
   -- a frame by which the outcome comes
   pub reaches : (w : Window) (lists : Lists) (a : Attempted) (frame : FrameValue) (at : S) → a.job ≡ new_job (made at) → Has lists at
-      → outcome_of (hearing w lists a frame).after ≡ Some (Reached result) → Shows lists at (hearing w lists a frame).noted
+      → outcome_of (hearing w lists a frame).after ≡ Some result → Shows lists at (hearing w lists a frame).noted
   reaches w lists a frame at is has got =
       let b : Attempted = after_hearing w a frame in
       let items : List Item = packets_heard w a frame in
       let h : Happened = taking lists b items in
-      let by = reached-by (settled h.after).job.ending (settled h.after).down result got in
+      let by = reached-by (settled h.after).job.ending (settled h.after).down result not_link got in
       all-packets items by.0 by.2 lists b at (told-job (heard_of w a.end frame) (with_end a (after_frame w a.end frame)) frame.kind.information ∙ is) has
       (sym (settled-ending h.after) ∙ by.1)

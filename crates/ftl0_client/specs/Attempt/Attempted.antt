@@ -6,9 +6,9 @@ use Rattle.px_base.specs.CallSign.{CallSign}
 use Rattle.ax25_link.specs.declared.state.Why.{Why}
 use Rattle.ax25_link.specs.Ends.{LinkEnd, calling_end}
 use Rattle.ftl0_job.specs.declared.ending.Ending.{Ending}
+use Rattle.ftl0_job.specs.declared.ending.Outcome.{Outcome}
+use Rattle.ftl0_job.specs.declared.ending.Outcome.TheVariants.{LinkDown}
 use Rattle.ftl0_job.specs.Table.{JobState}
-use Rattle.ftl0_client.specs.declared.attempt.outcome.AttemptOutcome.{AttemptOutcome}
-use Rattle.ftl0_client.specs.declared.attempt.outcome.AttemptOutcome.TheVariants.{Reached, LinkDown}
 
 -- the client's end of the link; the octets that were accepted and of which no packet was taken yet; the job; and why
 -- the link went down, where it did before the job had an outcome
@@ -23,10 +23,10 @@ abbrev pub calling : CallSign → CallSign → JobState → Attempted
 calling me server job = record { end = calling_end me server; rest = []; job = job; down = None }
 
 -- what became of an attempt: the job's outcome, or that the link went down before there was one
-abbrev pub outcome_by : Option Ending → Option Why → Option AttemptOutcome
+abbrev pub outcome_by : Option Ending → Option Why → Option Outcome
 outcome_by None None = None
 outcome_by None (Some why) = Some (LinkDown why)
-outcome_by (Some ending) down = Some (Reached ending.outcome)
+outcome_by (Some ending) down = Some ending.outcome
 
-abbrev pub outcome_of : Attempted → Option AttemptOutcome
+abbrev pub outcome_of : Attempted → Option Outcome
 outcome_of a = outcome_by a.job.ending a.down

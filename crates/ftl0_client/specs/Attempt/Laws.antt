@@ -13,6 +13,7 @@ use Rattle.client_notes.specs.Laws.{AreAllowed, after_all}
 use Rattle.client_notes.specs.Notes.{Lists, got_of}
 use Rattle.client_notes.specs.Several.{MakesBetween}
 use Rattle.ftl0_job.specs.declared.ending.Ending.{Ending}
+use Rattle.ftl0_job.specs.declared.ending.Outcome.{Outcome}
 use Rattle.ftl0_job.specs.declared.ending.Outcome.TheVariants as outcome
 use Rattle.ftl0_job.specs.declared.work.Work.{Work}
 use Rattle.ftl0_job.specs.declared.work.Work.TheVariants as work
@@ -23,8 +24,6 @@ use Rattle.ftl0_job.specs.Laws.{IsAckedIn}
 use Rattle.ftl0_job.specs.Promises.{JobStands}
 use Rattle.ftl0_job.specs.Table.{JobState, new_job}
 use Rattle.ftl0_job.specs.Upload.{Upload}
-use Rattle.ftl0_client.specs.declared.attempt.outcome.AttemptOutcome.{AttemptOutcome}
-use Rattle.ftl0_client.specs.declared.attempt.outcome.AttemptOutcome.TheVariants.{Reached}
 use Rattle.ftl0_client.specs.Attempt.Attempted.{Attempted, calling, outcome_of}
 use Rattle.ftl0_client.specs.Attempt.Hearing.{hearing, ticking}
 use Rattle.ftl0_client.specs.Attempt.Settling.{settled}
@@ -50,7 +49,7 @@ IsToldDown a = (why : Why) → a.down ≡ Some why → a.end.state ≡ Down
 
 -- what became of an attempt, if anything did, is what became of it then
 abbrev pub StaysReached : Attempted → Attempted → Type 0
-StaysReached before now = (reached : AttemptOutcome) → outcome_of before ≡ Some reached → outcome_of now ≡ Some reached
+StaysReached before now = (reached : Outcome) → outcome_of before ≡ Some reached → outcome_of now ≡ Some reached
 
 -- Once something became of an attempt, no frame and no tick changes it.
 abbrev pub OutcomeLaw : Type 0
@@ -73,7 +72,7 @@ abbrev pub AckedLaw : Type 0
 AckedLaw =
     (w : Window) (lists : Lists) (a : Attempted) (frame : FrameValue) (at : Upload) (number : ℕ)
     → a.job ≡ new_job (work.Upload at) → HasTask lists at
-    → outcome_of (hearing w lists a frame).after ≡ Some (Reached (outcome.Acked number))
+    → outcome_of (hearing w lists a frame).after ≡ Some (outcome.Acked number)
     → AcknowledgesIn lists at.task number (hearing w lists a frame).noted
 
 -- the file has this number, and after these commands its octets are noted, and have no fault
@@ -86,7 +85,7 @@ abbrev pub FetchedLaw : Type 0
 FetchedLaw =
     (w : Window) (lists : Lists) (a : Attempted) (frame : FrameValue) (at : Download) (number : ℕ)
     → a.job ≡ new_job (work.Download at) → HasGot lists at
-    → outcome_of (hearing w lists a frame).after ≡ Some (Reached (outcome.Fetched number))
+    → outcome_of (hearing w lists a frame).after ≡ Some (outcome.Fetched number)
     → IsFetchedBy number lists at (hearing w lists a frame).noted
 
 -- Once something became of an attempt, no frame has anything noted.

@@ -28,13 +28,12 @@ ghost use Rattle.ftl0_client.specs.Attempt.Hearing.{ticking};
 ghost use Rattle.ftl0_client.specs.Attempt.Settling.{is_later as is_to_part_later, parting_later, queuing, settled};
 ghost use Rattle.ftl0_client.specs.Attempt.Taking.{parting};
 
-use crate::attempt::AttemptOutcome;
 use arrayvec::ArrayVec;
 use ax25_frames::Frame;
 use ax25_link::{Heard, LinkState, Why, information};
 use client_notes::Notes;
 use disk_model::{Disk, Halt};
-use ftl0_job::{Ending, Job, Replies};
+use ftl0_job::{Ending, Job, Outcome, Replies};
 use ftl0_packets::{Malformed, Packet};
 use packet_link::PacketLink;
 use px_base::{Call, OutOfMemory};
@@ -157,12 +156,12 @@ impl Attempt {
     }
 
     /// What became of the attempt; `None` as long as it goes on. Takes no memory.
-    pub fn outcome(&self) -> Option<AttemptOutcome>
+    pub fn outcome(&self) -> Option<Outcome>
         ensures { result ≡ outcome_by self.now.job.ending self.now.down }
     {
         match self.job.ending() {
-            Some(ending) => Some(AttemptOutcome::Reached(ending.outcome)),
-            None => self.down.map(AttemptOutcome::LinkDown),
+            Some(ending) => Some(ending.outcome),
+            None => self.down.map(Outcome::LinkDown),
         }
     }
 

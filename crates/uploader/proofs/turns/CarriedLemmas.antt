@@ -4,9 +4,8 @@ use Rattle.px_base.specs.Polling.{IsButLast}
 use Rattle.node.specs.Turns.{Lent, lent}
 use Rattle.node.specs.declared.finished.Finished.TheVariants as finished
 use Rattle.node.specs.declared.stop.NodeStop.TheVariants as stop
-use Rattle.ftl0_client.specs.declared.outcome.Outcome.TheVariants as outcome
 use Rattle.uploader.specs.declared.stop.SendStop.TheVariants as send_stop
-use Rattle.uploader.proofs.Names.{Turn, Gains-none, Grows-none, Ghosts, NotesCommand, Lists, IsReady, NotesState, AtDisk, at, NodeEvent, NodeEvents, OneRunLaw, Seen, Brought, HasAirCause, IsUnsaid, RanBy, StoppedInLast, TookAll, TookTurns, TurnsBy, party_at, Finished, NodeStop, HasAsked, Client, ClientEvent, IsSilent, asking, asks, ClientState, IsClient, MayHear, outcome_in, GoesLaw, GoesOver, is_over, IsNew, NotesGoWith, OneStepLaw, outcome_by, JobState, Outcome, SendStop, answer_of, CutsOff, CarriesOut, ClientRan, CountsWhere, EndsOver, IsOpenBeforeEach, MayCarryOut, Run, asked_first, before_last, StopsBehind, StopsOver, TakesAll, CameOf, CameToSome, Past, StoppedAt, client_course, further, ClientStation, cuts-none, does-nothing}
+use Rattle.uploader.proofs.Names.{Option, Turn, Gains-none, Grows-none, Ghosts, NotesCommand, Lists, IsReady, NotesState, AtDisk, at, NodeEvent, NodeEvents, OneRunLaw, Seen, Brought, HasAirCause, IsUnsaid, RanBy, StoppedInLast, TookAll, TookTurns, TurnsBy, party_at, Finished, NodeStop, HasAsked, Client, ClientEvent, IsSilent, asking, asks, ClientState, IsClient, MayHear, outcome_in, GoesLaw, GoesOver, is_over, IsNew, NotesGoWith, OneStepLaw, outcome_by, JobState, Outcome, SendStop, answer_of, CutsOff, CarriesOut, ClientRan, CountsWhere, EndsOver, IsOpenBeforeEach, MayCarryOut, Run, asked_first, before_last, StopsBehind, StopsOver, TakesAll, CameOf, CameToSome, Past, StoppedAt, client_course, further, ClientStation, cuts-none, does-nothing}
 use Rattle.uploader.proofs.turns.CourseLemmas.{came-silent, came-whole, closed-done, closed-over, goes-alike, no-split, owes-more, promised, tells-of}
 
 -- ---- the turns but the last
@@ -44,7 +43,7 @@ no-moments [] same = refl
 no-moments (m ∷ moments) same = absurd (cc same)
 
 -- a stop behind what all turns but the last bring
-behind-last : (turns : List Turn) (job : JobState) (least : List NodeEvent) (base : Client) (events : List ClientEvent) (why : NodeStop) (reached : Outcome) (text : List ℕ) (done cut : List NotesCommand)
+behind-last : (turns : List Turn) (job : JobState) (least : List NodeEvent) (base : Client) (events : List ClientEvent) (why : NodeStop) (reached : Option Outcome) (text : List ℕ) (done cut : List NotesCommand)
     → StopsBehind (asked_first job least) base events why reached text done cut → StopsBehind (before_last turns job least) base events why reached text done cut
 behind-last [] job least base events why reached text done cut h = record { stops = h.stops; between = h.stops.before; in_order = refl }
 behind-last (t ∷ turns) job least base events why reached text done cut h = h
@@ -74,19 +73,19 @@ abbrev asked_past : {D : Type 0} → ClientState → D → Client → JobState �
 asked_past client disk base job = record { client = client; disk = disk; base = base; job = job; whole = []; events = []; text = [] }
 
 -- what turns bring, how they ended, and what was said and noted
-abbrev run_of : Brought NodeEvent → Result Finished NodeStop → List ℕ → Outcome → List NotesCommand → List NotesCommand → Run
+abbrev run_of : Brought NodeEvent → Result Finished NodeStop → List ℕ → Option Outcome → List NotesCommand → List NotesCommand → Run
 run_of all ended text reached done cut = record { turns = all.turns; moments = all.moments; ended = ended; text = text; reached = reached; done = done; cut = cut }
 
 -- What came of the turns, by how they ended.
 record CameOut {D : Type 0} (g : Ghosts D) (past : Past D) (all : Brought NodeEvent) (polls : ℕ) (ended : Result Finished NodeStop) (text : List ℕ) (new : AtDisk ClientStation D) : Type 0 where
   done : List NotesCommand
   cut : List NotesCommand
-  reached : Outcome
+  reached : Option Outcome
   ran : ClientRan past.base past.job polls (run_of all ended text reached done cut)
   cuts : CutsOff g (IsErrOf ended stop.Disk) past.client.notes new.it.client.notes past.disk new.disk done cut
-  over : ended ≡ Ok finished.Over → reached ≢ outcome.Working
+  over : ended ≡ Ok finished.Over → reached ≢ None
   tells : outcome_in new.it.client.attempt ≡ reached
-  came : reached ≢ outcome.Working → CameToSome new.it.client past.base (asked_first past.job ran.events) reached
+  came : reached ≢ None → CameToSome new.it.client past.base (asked_first past.job ran.events) reached
 
 module _ {A C D : Type 0} (see : Seen D A C) (lasts : (disk : D) → see.disk.lasts disk disk) (one_run : OneRunLaw) (one_step : OneStepLaw) (law : GoesLaw) (old : ClientState) (base : Client) (job : JobState)
     (from to : Lent ClientStation D A C) (came_of : CameOf see.disk (asked_past old from.disk base job) (party_at from)) (polls : ℕ) (closing : Result Finished NodeStop)
@@ -124,7 +123,7 @@ module _ {A C D : Type 0} (see : Seen D A C) (lasts : (disk : D) → see.disk.la
   last-brought last (inr one) = let then_is = h.open_before last.earlier one.0 [] last.before last.behind one.1 last.split last.one_each in (then_is.0, then_is.1)
 
   ran-as : (ended : Result Finished NodeStop) → TurnsBy ended polls h.all.turns → (last : ButLast h.all.turns h.all.moments) (least : List NodeEvent) → NodeEvents base.me last.earlier last.before least
-      → (reached : Outcome) (done cut : List NotesCommand) → EndsOver ended (before_last h.all.turns job least) base events reached h.text done cut
+      → (reached : Option Outcome) (done cut : List NotesCommand) → EndsOver ended (before_last h.all.turns job least) base events reached h.text done cut
       → ClientRan base job polls (run_of h.all ended h.text reached done cut)
   ran-as ended turns last least brought reached done cut over = record {
     one_each = h.one_each;
@@ -145,7 +144,7 @@ module _ {A C D : Type 0} (see : Seen D A C) (lasts : (disk : D) → see.disk.la
 
   -- all was taken
   took-all : (ended : Result Finished NodeStop) (over : Bool) → TurnsBy ended polls h.all.turns → ¬ IsErrOf ended stop.Disk → (ended ≡ Ok finished.Over → over ≡ true)
-      → ((least : List ClientEvent) (reached : Outcome) (done : List NotesCommand) → TakesAll base events over reached h.text done [] → EndsOver ended least base events reached h.text done [])
+      → ((least : List ClientEvent) (reached : Option Outcome) (done : List NotesCommand) → TakesAll base events over reached h.text done [] → EndsOver ended least base events reached h.text done [])
       → TookAll (client_course see.disk) (party_at from) h.all.events h.text new over → Out ended
   unfolding ran-as
   took-all ended over turns fine closed ends took =
@@ -198,7 +197,7 @@ module _ {A C D : Type 0} (see : Seen D A C) (lasts : (disk : D) → see.disk.la
         by (inr some) = some.2.0
 
     stopped-at : TurnsBy (Err why) polls h.all.turns
-        → ((least : List ClientEvent) (reached : Outcome) (done cut : List NotesCommand) → StopsBehind least base events why reached h.text done cut → EndsOver (Err why) least base events reached h.text done cut)
+        → ((least : List ClientEvent) (reached : Option Outcome) (done cut : List NotesCommand) → StopsBehind least base events why reached h.text done cut → EndsOver (Err why) least base events reached h.text done cut)
         → Out (Err why)
     unfolding ran-as
     stopped-at turns ends = by stopped.ends
@@ -207,7 +206,7 @@ module _ {A C D : Type 0} (see : Seen D A C) (lasts : (disk : D) → see.disk.la
         last = record { earlier = stopped.earlier; before = stopped.before; behind = stopped.behind; but_last = stopped.but_last; split = stopped.split; one_each = stopped.one_each }
 
         out : (whole : List ClientEvent) (those : List NodeEvent) (text : List ℕ) → those ≡ h.all.events → text ≡ h.text → StoppedAt see.disk (record past { whole = whole; events = those; text = text }) why new
-            → ((reached : Outcome) (done cut : List NotesCommand) → StopsBehind whole base events why reached h.text done cut
+            → ((reached : Option Outcome) (done cut : List NotesCommand) → StopsBehind whole base events why reached h.text done cut
             → StopsBehind (before_last h.all.turns job stopped.least) base events why reached h.text done cut)
             → Out (Err why)
         out whole those text same_events same_text before behind =
@@ -318,7 +317,7 @@ module _ {A C D : Type 0} (see : Seen D A C) (lasts : (disk : D) → see.disk.la
   -- there was no memory for the attempt
   pub refused-carries : (polls : ℕ) (base : Client) (air : A) (clock : C) (new : ClientState) → new ≡ old → CarriesOut see (lent old disk air clock) (lent new disk air clock) job polls base (Err send_stop.OutOfMemory)
   refused-carries polls base air clock new same =
-      let stops : StopsOver base (asks job ∷ []) stop.OutOfMemory outcome.Working [] [] [] =
+      let stops : StopsOver base (asks job ∷ []) stop.OutOfMemory None [] [] [] =
       record {
         before = [];
         next = asks job;
@@ -335,7 +334,7 @@ module _ {A C D : Type 0} (see : Seen D A C) (lasts : (disk : D) → see.disk.la
         done_is = refl;
       } in
       record {
-        run = run_of (record { turns = []; moments = []; events = [] }) (Err stop.OutOfMemory) [] outcome.Working [] [];
+        run = run_of (record { turns = []; moments = []; events = [] }) (Err stop.OutOfMemory) [] None [] [];
         answer = refl;
         air =
             record {

@@ -1,13 +1,13 @@
 -- The course of a client's station: what a client comes to over events and owes the air meanwhile, what it says, and a frame
 -- at which it halts, before which nothing had become of the job, since a link that is down brings no packets.
 use Rattle.std.proofs.Common.{inl, ◌≡◌, ℕ, List, [], ◌∷◌, ◌++◌, refl, ap, sym, ◌∙◌, subst, append_assoc, append-nil, Some, Option, ◌≢◌, true, map, false, Bool, not, ◌||◌, ◌&&◌, Err, true≢false, IsErrOf, length, take, arith, take-append-drop, drop}
+use Rattle.std.specs.Prelude.{is_none}
 use Rattle.std.proofs.lemmas.List.Concat.{flat_map-append}
 use Rattle.kiss.specs.KissText.{kiss_text}
 use Rattle.ftl0_client.specs.ClientStep.{ClientStep, Empties, happening}
 use Rattle.node.specs.declared.stop.NodeStop.TheVariants as stop
 use Rattle.node.specs.Events as node
 use Rattle.ftl0_client.specs.Attempt.Attempted.{Attempted}
-use Rattle.ftl0_client.specs.declared.outcome.Outcome.TheVariants as outcome
 use Rattle.uploader.specs.Turns.Came.{listing_by, TellsOf}
 use Rattle.std.proofs.lemmas.Option.{same_Some}
 use Rattle.ax25_link.specs.Kept.{Kept, is_pending, is_there}
@@ -32,7 +32,7 @@ use Rattle.ftl0_client.proofs.attempt.DownLemmas.{still-silent}
 use Rattle.ftl0_client.proofs.attempt.EndedLemmas.{taking-ended, told-job}
 use Rattle.disk_model.specs.declared.halt.Halt.TheVariants as halt
 use Rattle.ftl0_client.proofs.attempt.TakingLemmas.{noted-front}
-use Rattle.uploader.proofs.Names.{FrameValue, canonical, NotesCommand, Client, ClientEvent, ClientSends, IsSilent, client_next, asks, Refused, sends_by, sends_of_attempt, sends_of_link, attempt_for, client_hearing, hearing_by, hears, ClientState, listing_in, IsClient, MayHear, GoWithAttempt, IsAttemptOf, attempt_closed, attempt_pending, client_closed, client_pending, outcome_in, Outcome, OneStepLaw, IsToldDownOf, StopsBehind, text_of, TakesAll, event_of, StopsAt, GoesOver, AsksNothing, Comes, GoesLaw, Promises, is_over, is_over_at, CameToSome, Owes, CameOf, IsFit, OwesBy, Past, StoppedAt, all_events, client_course, further, HaltsBy, IsQuiet, NodeStop, outcome_by, outcome_as, AllByRecursion, Lists, is_same_call, NodeEvent, IsNew, NotesGoWith, JobState, listing_of, job_row, asked_first, map-append, None, ⊤, Ghosts, DoesSeveral, CutsOff, Several-then, cuts-none, cuts-then, Several-same, AtDisk, IsLawful, GaveAll, GivesNext, at, stop_at_put, stop_of, ClientStation, SameAttempt, SameButFrames, HandsOut, HandsOutNext, StopsBy, may-kept, NotesState, Finished}
+use Rattle.uploader.proofs.Names.{FrameValue, canonical, NotesCommand, Client, ClientEvent, ClientSends, IsSilent, client_next, asks, Refused, sends_by, sends_of_attempt, sends_of_link, attempt_for, client_hearing, hearing_by, hears, ClientState, listing_in, IsClient, MayHear, GoWithAttempt, IsAttemptOf, attempt_closed, attempt_pending, client_closed, client_pending, outcome_in, Outcome, OneStepLaw, IsToldDownOf, StopsBehind, text_of, TakesAll, event_of, StopsAt, GoesOver, AsksNothing, Comes, GoesLaw, Promises, is_over, is_over_at, CameToSome, Owes, CameOf, IsFit, OwesBy, Past, StoppedAt, all_events, client_course, further, HaltsBy, IsQuiet, NodeStop, is_under_way, outcome_by, AllByRecursion, Lists, is_same_call, NodeEvent, IsNew, NotesGoWith, JobState, listing_of, job_row, asked_first, map-append, None, ⊤, Ghosts, DoesSeveral, CutsOff, Several-then, cuts-none, cuts-then, Several-same, AtDisk, IsLawful, GaveAll, GivesNext, at, stop_at_put, stop_of, ClientStation, SameAttempt, SameButFrames, HandsOut, HandsOutNext, StopsBy, may-kept, NotesState, Finished}
 
 -- one frame more
 pub text-more : (xs : List FrameValue) (x : FrameValue) → text_of (xs ++ x ∷ []) ≡ text_of xs ++ kiss_text (canonical x)
@@ -70,7 +70,7 @@ goes-alike law client (e ∷ events) frames others commands those now that h k =
     goes-alike law h.2 events h.4 k.4 h.3 k.3 now that h.8 (subst (λ (c : Client). GoesOver c events k.4 k.3 that) (sym same.client) k.8)
 
 -- a stop with further events behind it
-pub stops-longer : (whole : List ClientEvent) (client : Client) (events others : List ClientEvent) (why : NodeStop) (reached : Outcome) (text : List ℕ) (done cut : List NotesCommand)
+pub stops-longer : (whole : List ClientEvent) (client : Client) (events others : List ClientEvent) (why : NodeStop) (reached : Option Outcome) (text : List ℕ) (done cut : List NotesCommand)
     → StopsBehind whole client events why reached text done cut → StopsBehind whole client (events ++ others) why reached text done cut
 stops-longer whole client events others why reached text done cut h =
     let s = h.stops in
@@ -96,7 +96,7 @@ stops-longer whole client events others why reached text done cut h =
     }
 
 -- what it came to, with further events behind it
-pub came-longer : (new : ClientState) (reached : Outcome) (client : Client) (events others : List ClientEvent) → CameToSome new client events reached → CameToSome new client (events ++ others) reached
+pub came-longer : (new : ClientState) (reached : Option Outcome) (client : Client) (events others : List ClientEvent) → CameToSome new client events reached → CameToSome new client (events ++ others) reached
 came-longer new reached client events others (h, some, tells) = (
   record {
     some = h.some;
@@ -198,7 +198,7 @@ nothing-front : (some others : List ClientEvent) → AllByRecursion AsksNothing 
 nothing-front [] others h = tt
 nothing-front (e ∷ some) others h = (h.0, nothing-front some others h.1)
 
-module _ (law : GoesLaw) (base : Client) (job : JobState) (just : IsNew job) (go_with : NotesGoWith base.lists job) (new : ClientState) (reached : Outcome) (events : List NodeEvent) where
+module _ (law : GoesLaw) (base : Client) (job : JobState) (just : IsNew job) (go_with : NotesGoWith base.lists job) (new : ClientState) (reached : Option Outcome) (events : List NodeEvent) where
   -- what the client comes to over some of its events, the asking first
   comes : (some others : List ClientEvent) (frames : List FrameValue) (commands : List NotesCommand) (now : Client) → some ≢ [] → asked_first job events ≡ some ++ others
       → GoesOver base some frames commands now → Comes base job commands now
@@ -216,10 +216,10 @@ module _ (law : GoesLaw) (base : Client) (job : JobState) (just : IsNew job) (go
       let listing : listing_of stands.a.job.work ≡ listing_in new.attempt = sym (tells.listing ∙ ap (λ (o : Option Attempted). listing_by o) stands.is_attempt) in
       subst (λ (l : Lists). Promises l job.work (listing_in new.attempt) reached) (sym tells.lists)
       (subst (λ (octets : List ℕ). Promises came.now.lists job.work octets reached) listing
-      (subst (λ (o : Outcome). Promises came.now.lists job.work (listing_of stands.a.job.work) o) (sym came.outcome_is) stands.promises))
+      (subst (λ (o : Option Outcome). Promises came.now.lists job.work (listing_of stands.a.job.work) o) (sym came.outcome_is) stands.promises))
 
   -- where the client is closed something became of the job
-  pub closed-done : (text : List ℕ) (done cut : List NotesCommand) → TakesAll base (asked_first job events) true reached text done cut → reached ≢ outcome.Working
+  pub closed-done : (text : List ℕ) (done cut : List NotesCommand) → TakesAll base (asked_first job events) true reached text done cut → reached ≢ None
   closed-done text done cut all working =
       (comes (asked_first job events) [] all.0 done all.1 (λ none. cc none) (sym (append-nil (asked_first job events))) all.2).over all.6 (sym all.5 ∙ working)
 
@@ -365,7 +365,7 @@ closed-over self client is quiet =
 -- ---- what it tells
 
 told-by : (attempt : AttemptState) (a : Attempted) (job : JobState) (down : Option Why) → attempt.job ≡ job → attempt.down ≡ down → a.job ≡ job → a.down ≡ down
-    → (outcome_as (attempted.outcome_by attempt.job.ending attempt.down) ≡ outcome_as (attempted.outcome_by a.job.ending a.down)) × (listing_of attempt.job.work ≡ listing_of a.job.work)
+    → (attempted.outcome_by attempt.job.ending attempt.down ≡ attempted.outcome_by a.job.ending a.down) × (listing_of attempt.job.work ≡ listing_of a.job.work)
 told-by attempt a job down h k m n = (cc, cc)
 
 -- the attempt of the code's client tells what that one has
@@ -565,11 +565,11 @@ module _ (client : Client) (frame : FrameValue) (told : IsToldDownOf client.atte
 
   -- the client was at work
   pub stopped-working : {D : Type 0} (g : Ghosts D) (old new : WithNotes AttemptState D) (why : Halt) → StopsAmong g begins (packets_heard client.window a frame) old new why
-      → outcome_by client.attempt ≡ outcome.Working
+      → is_under_way client.attempt ≡ true
   stopped-working g old new why h =
-      ap outcome_by is_attempt
-      ∙ ap (λ (e : Option Ending). outcome_as (attempted.outcome_by e a.down)) (no-ending old.notes.lists h.before h.stops.no_outcome a.job.ending refl)
-      ∙ ap (λ (d : Option Why). outcome_as (attempted.outcome_by None d)) (not-down h.before h.item h.behind h.is_part a.down refl)
+      ap is_under_way is_attempt
+      ∙ ap (λ (e : Option Ending). is_none (attempted.outcome_by e a.down)) (no-ending old.notes.lists h.before h.stops.no_outcome a.job.ending refl)
+      ∙ ap (λ (d : Option Why). is_none (attempted.outcome_by None d)) (not-down h.before h.item h.behind h.is_part a.down refl)
 
   -- and is so still
   told-down : (told : Heard) (b : Attempted) (octets : List ℕ) (before : List Item) (item : Item) (behind : List Item) → packets_told told a octets ≡ before ++ item ∷ behind → (after_told told b octets).down ≡ b.down
@@ -577,13 +577,13 @@ module _ (client : Client) (frame : FrameValue) (told : IsToldDownOf client.atte
   told-down told b octets before item behind parts = refl
 
   pub still-working : {D : Type 0} (g : Ghosts D) (old new : WithNotes AttemptState D) (why : Halt) → StopsAmong g begins (packets_heard client.window a frame) old new why
-      → outcome_as (attempted.outcome_by new.state.job.ending new.state.down) ≡ outcome.Working
+      → attempted.outcome_by new.state.job.ending new.state.down ≡ None
   still-working g old new why h =
       let down : new.state.down ≡ None =
       h.down ∙ told-down (heard_of client.window a.end frame) (with_end a (after_frame client.window a.end frame)) frame.kind.information h.before h.item h.behind h.is_part
       ∙ not-down h.before h.item h.behind h.is_part a.down refl in
-      ap (λ (e : Option Ending). outcome_as (attempted.outcome_by e new.state.down)) (ap (λ (j : JobState). j.ending) h.stops.same ∙ h.stops.no_outcome)
-      ∙ ap (λ (d : Option Why). outcome_as (attempted.outcome_by None d)) down
+      ap (λ (e : Option Ending). attempted.outcome_by e new.state.down) (ap (λ (j : JobState). j.ending) h.stops.same ∙ h.stops.no_outcome)
+      ∙ ap (λ (d : Option Why). attempted.outcome_by None d) down
 
 module _ {D : Type 0} (g : Ghosts D) (lasts : (disk : D) → g.lasts disk disk) (on : (first second third : D) → g.lasts first second → g.lasts second third → g.lasts first third) where
   some-cut : (P : Type 0) (old new : NotesState) (disk disk_n : D) (commands : List NotesCommand) → P → DoesSeveral g P old new disk disk_n commands → commands ≡ [] → ⊥
@@ -596,7 +596,7 @@ module _ {D : Type 0} (g : Ghosts D) (lasts : (disk : D) → g.lasts disk disk) 
     -- what it stopped by, of this frame's commands
     abbrev Halted : Halt → Type 0
     Halted why =
-        (done : List NotesCommand) × (cut : List NotesCommand) × StopsAt (stop_of why) client (hears frame) outcome.Working [] done cut
+        (done : List NotesCommand) × (cut : List NotesCommand) × StopsAt (stop_of why) client (hears frame) None [] done cut
         × CutsOff g (IsErrOf {T = Finished} (Err (stop_of why)) stop.Disk) old.notes new.notes old.disk new.disk done cut
 
     module _ (a : Attempted) (hears_it : attempt_for client frame ≡ Some a) where
@@ -670,7 +670,7 @@ module _ {D : Type 0} (g : Ghosts D) (lasts : (disk : D) → g.lasts disk disk) 
         record {
           done = h.commands ++ halted.0;
           cut = halted.1;
-          reached = outcome.Working;
+          reached = None;
           stops =
               record {
                 stops =

@@ -6,7 +6,7 @@ use Rattle.ftl0_client.specs.Table.{listing_of}
 use Rattle.ftl0_client.specs.Attempt.Attempted.{Attempted}
 use Rattle.ftl0_client.specs.Client.{Client, ClientEvent}
 use Rattle.ftl0_client.specs.ClientState.{ClientState, listing_in, outcome_in}
-use Rattle.ftl0_client.specs.declared.outcome.Outcome.{Outcome}
+use Rattle.ftl0_client.specs.Outcome.{Outcome}
 use Rattle.ftl0_client.specs.Going.{GoesOver}
 use Rattle.ftl0_client.specs.Outcomes.{outcome_by}
 
@@ -22,8 +22,9 @@ pub record TellsOf (self : ClientState) (client : Client) : Type 0 where
   pub outcome : outcome_in self.attempt ≡ outcome_by client.attempt
   pub listing : listing_in self.attempt ≡ listing_by client.attempt
 
--- Over the first of these events the client came to this outcome, and this list came.
-pub record CameWith (client : Client) (events : List ClientEvent) (listing : List ℕ) (outcome : Outcome) : Type 0 where
+-- Over the first of these events the client came to this outcome, or to none, and this list came.
+pub record CameWith (client : Client) (events : List ClientEvent) (listing : List ℕ) (outcome : Option Outcome)
+    : Type 0 where
   pub some : List ClientEvent
   pub others : List ClientEvent
   pub in_order : events ≡ some ++ others

@@ -1,5 +1,6 @@
 -- What a client says over its turns, what it does to its disk, why the turns end, and what the answer is.
-use Rattle.std.specs.Prelude.{◌≡◌, ◌≢◌, ℕ, ◌≤◌, List, [], ◌∷◌, ◌++◌, length, map, true, false, Result, Ok, Err, IsErrOf}
+use Rattle.std.specs.Prelude.{◌≡◌, ◌≢◌, ℕ, ◌≤◌, List, [], ◌∷◌, ◌++◌, length, map, true, false}
+use Rattle.std.specs.Prelude.{Option, None, Result, Ok, Err, IsErrOf}
 use Rattle.px_base.specs.Outside.{Gains, Grows, Rose}
 use Rattle.px_base.specs.Polling.{HearsAll, IsButLast}
 use Rattle.px_base.specs.declared.air.Turn.{Turn}
@@ -21,8 +22,7 @@ use Rattle.ftl0_client.specs.Client.{Client, ClientEvent, asks}
 use Rattle.ftl0_client.specs.ClientState.{ClientState, IsFree, IsOwn, client_pending, listing_in}
 use Rattle.ftl0_client.specs.JobState.{IsNew, NotesGoWith}
 use Rattle.ftl0_client.specs.Going.{GoesOver, Promises, is_over}
-use Rattle.ftl0_client.specs.declared.outcome.Outcome.{Outcome}
-use Rattle.ftl0_client.specs.declared.outcome.Outcome.TheVariants as outcome
+use Rattle.ftl0_client.specs.Outcome.{Outcome}
 use Rattle.uploader.specs.Stops.{answer_of}
 use Rattle.uploader.specs.Turns.Came.{CameWith}
 use Rattle.uploader.specs.Turns.Carrying.{StopsBehind, TakesAll, event_of}
@@ -42,13 +42,13 @@ pub record MayBeAsked (self : ClientState) (job : JobState) : Type 0 where
   pub own : IsOwn self job.work
 
 -- A client's turns: what was heard at which moments and how they ended, the text that was said, what became of the job,
--- and which commands were noted, then those in one of which the disk failed, if it did.
+-- if anything did, and which commands were noted, then those in one of which the disk failed, if it did.
 pub record Run : Type 0 where
   pub turns : List Turn
   pub moments : List ℕ
   pub ended : Result Finished NodeStop
   pub text : List ℕ
-  pub reached : Outcome
+  pub reached : Option Outcome
   pub done : List NotesCommand
   pub cut : List NotesCommand
 
@@ -56,8 +56,8 @@ pub record Run : Type 0 where
 -- them were taken where the client was closed, or isn't though the end of the air was read, a poll failed, or as many
 -- polls were made as may be; else those up to a stop behind the least of them.
 abbrev pub EndsOver :
-    Result Finished NodeStop → List ClientEvent → Client → List ClientEvent → Outcome → List ℕ → List NotesCommand
-    → List NotesCommand → Type 0
+    Result Finished NodeStop → List ClientEvent → Client → List ClientEvent → Option Outcome → List ℕ
+    → List NotesCommand → List NotesCommand → Type 0
 EndsOver (Ok finished.Over) least client events reached text done cut =
     TakesAll client events true reached text done cut
 EndsOver (Ok (finished.Closed count)) least client events reached text done cut =
@@ -133,9 +133,9 @@ pub record TakesAir {A C D : Type 0} (see : Seen D A C) (air air_now : A) (clock
 -- stands of these notes. A client that was closed came so far.
 pub record Became (base : Client) (job : JobState) (events : List NodeEvent) (listing : List ℕ) (lists : Lists)
     (run : Run) : Type 0 where
-  pub over : run.ended ≡ Ok finished.Over → run.reached ≢ outcome.Working
-  pub came : run.reached ≢ outcome.Working → CameWith base (asked_first job events) listing run.reached
-  pub promises : run.reached ≢ outcome.Working → Promises lists job.work listing run.reached
+  pub over : run.ended ≡ Ok finished.Over → run.reached ≢ None
+  pub came : run.reached ≢ None → CameWith base (asked_first job events) listing run.reached
+  pub promises : run.reached ≢ None → Promises lists job.work listing run.reached
 
 -- A client that stands for this one was asked for a job, and took turns: what was heard, given and said, what was
 -- noted, why the turns ended, what became of the job, and what a command makes of that.

@@ -19,8 +19,7 @@ use Rattle.ftl0_client.specs.Going.{GoesOver}
 use Rattle.ftl0_client.specs.JobState.{IsNew, NotesGoWith}
 use Rattle.ftl0_client.specs.Outcomes.{outcome_by}
 use Rattle.ftl0_client.specs.Table.{JobState}
-use Rattle.ftl0_client.specs.declared.outcome.Outcome.{Outcome}
-use Rattle.ftl0_client.specs.declared.outcome.Outcome.TheVariants as outcome
+use Rattle.ftl0_client.specs.Outcome.{Outcome}
 use Rattle.uploader.specs.Turns.Came.{CameWith, TellsOf}
 use Rattle.uploader.specs.Turns.Carried.{asked_first}
 use Rattle.uploader.specs.Turns.Carrying.{StopsBehind, text_of}
@@ -73,7 +72,7 @@ pub record CameOf {D : Type 0} (g : Ghosts D) (past : Past D) (a : AtDisk Client
   pub does : DoesSeveral g ⊥ past.client.notes a.it.client.notes past.disk a.disk commands
 
 -- what it came to behind some of these events, the first at least
-abbrev pub CameToSome : ClientState → Client → List ClientEvent → Outcome → Type 0
+abbrev pub CameToSome : ClientState → Client → List ClientEvent → Option Outcome → Type 0
 CameToSome new base events reached =
     (came : CameWith base events (listing_in new.attempt) reached) × (came.some ≢ []) × TellsOf new came.now
 
@@ -82,13 +81,13 @@ pub record StoppedAt {D : Type 0} (g : Ghosts D) (past : Past D) (why : NodeStop
     : Type 0 where
   pub done : List NotesCommand
   pub cut : List NotesCommand
-  pub reached : Outcome
+  pub reached : Option Outcome
   pub stops : StopsBehind past.whole past.base (all_events past) why reached past.text done cut
   pub cuts :
       CutsOff g (IsErrOf {T = Finished} (Err why) stop.Disk) past.client.notes a.it.client.notes past.disk a.disk done
       cut
   pub tells : outcome_in a.it.client.attempt ≡ reached
-  pub came : reached ≢ outcome.Working → CameToSome a.it.client past.base (all_events past) reached
+  pub came : reached ≢ None → CameToSome a.it.client past.base (all_events past) reached
 
 -- Nothing is to be sent, whichever client it stands for.
 pub record IsQuiet (self : ClientState) : Type 0 where

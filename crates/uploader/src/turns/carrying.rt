@@ -75,11 +75,16 @@ pub(crate) fn carry_out<D: Disk, A: Air, C: Clock>(
 
 /// What a command makes of its turns: what became of the job, where it is what a command asks for; else the stop that
 /// it is, or why the turns ended before anything did.
-fn answer_by(ended: Result<Finished, NodeStop>, reached: Outcome) -> Result<Outcome, SendStop>
+fn answer_by(
+    ended: Result<Finished, NodeStop>,
+    reached: Option<Outcome>,
+) -> Result<Outcome, SendStop>
     ensures { result ≡ answer_of ended reached }
 {
+    let Some(reached) = reached else {
+        return Err(stop_by(ended));
+    };
     match reached {
-        Outcome::Working => Err(stop_by(ended)),
         Outcome::Refused { code } => Err(SendStop::Refused { code }),
         Outcome::BadFile { code } => Err(SendStop::BadFile { code }),
         Outcome::LinkDown(_) => Err(SendStop::LinkDown),

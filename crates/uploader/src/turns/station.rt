@@ -9,7 +9,8 @@ use ax25_frames::Frame;
 use disk_model::Disk;
 use ftl0_client::Client;
 use ftl0_client::laws::{empties_law, goes_law};
-use node::{Halt, Station};
+use node::{NodeStop, Station};
+use px_base::Moment;
 
 /// A client as a station: it hears frames for its call, and keeps no moments. Once a frame halted it, because the disk
 /// failed or there was no memory, it sends nothing.
@@ -25,19 +26,19 @@ impl<D: Disk> Station<D> for ClientStation {
 
     ghost course = { client_course D.Disk };
 
-    fn hear(&mut self, disk: &mut D, frame: &Frame<'_>, _moment: u32) -> Result<(), Halt> {
+    fn hear(&mut self, disk: &mut D, frame: &Frame<'_>, _moment: Moment) -> Result<(), NodeStop> {
         // What it came to before this frame.
         goes_law();
         match self.client.hear(disk, frame) {
             Ok(()) => Ok(()),
             Err(why) => {
                 self.halted = true;
-                Err(why)
+                Err(NodeStop::from(why))
             }
         }
     }
 
-    fn tick(&mut self, _disk: &mut D, _moment: u32) {
+    fn tick(&mut self, _disk: &mut D, _moment: Moment) {
         self.client.tick();
     }
 

@@ -1,4 +1,4 @@
-use Rattle.std.proofs.Common.{◌-◌, ◌<◌, length, drop, sym, arith, length-drop}
+use Rattle.std.proofs.Common.{◌-◌, ◌<◌, length, drop, sym, ◌∙◌, arith, length-drop}
 use Rattle.client_notes.proofs.Names.{take_all, All-from_get_or, octets_part}
 use Rattle.client_notes.proofs.RecordLemmas.{length-part, start-in, start_lengths}
 use Rattle.client_notes.proofs.reading.read_start.Goals as goal
@@ -12,7 +12,7 @@ returns c =
     let digest = length-part content 22 32 (omega (arith, is.some)) in
     record {
       command =
-          start-in content _ c.le32.result c.le32-2.result c.in_ok-server.server c.in_ok-caller.caller c.if-not-is_start_len.ensures c.in_ok-server.ensures.call c.in_ok-caller.ensures.call c.le32.ensures c.le32-2.ensures
+          start-in content _ c.new.result c.le32-2.result c.in_ok-server.server c.in_ok-caller.caller c.if-not-is_start_len.ensures c.in_ok-server.ensures.call c.in_ok-caller.ensures.call (c.new.ensures ∙ c.le32.ensures) c.le32-2.ensures
           (take_all (length content - 55) (drop 55 content) (omega (arith, length-drop 55 content)));
       writable = (
         omega arith,

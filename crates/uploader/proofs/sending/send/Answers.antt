@@ -22,15 +22,15 @@ returns-in_err-file-clause-causes g c =
     (causes-still see old old (Err why) (other stop.AirRead unfit (λ no. no)) (other stop.AirWrite unfit (λ no. no)) refl
     (runs_still g.D.Disk _ c.args.disk.now (other stop.Disk unfit (λ no. no)) (g.met.D.Disk.lasts_same c.args.disk.now)))
 
-pub returns-in-Ok-Already : goal.returns-in-Ok-Already
-returns-in-Ok-Already g c =
+pub returns-in-Already : goal.returns-in-Already
+returns-in-Already g c =
     let see = seen g.D.Disk g.A.Air g.C.Clock.given in
-    let h = c.in-Ok-Already.ensures in
+    let h = c.in-Ok.ensures in
     let s = started g.D.Disk c.args.terms.now c.args.name.now c.in_ok-file.file c.args.disk.now c.recover_client.new.disk c.start_task.new.disk c.in_ok-client.client c.start_task.new.self c.in_ok-client.ensures.recovers h.same h.starts
-    c.sum_of_file-sum.result (c.sum_of_file-sum.ensures ∙ ap sum_of c.as_slice.ensures) (Ok c.in-Ok-Already.field-0) (Ok (begun.Already c.in-Ok-Already.number)) (ap Ok c.in-Ok-Already.field-0-is) (record { answers = h.answers; untouched = h.untouched; does = h.does }) in
+    c.sum_of_file-sum.result (c.sum_of_file-sum.ensures ∙ ap sum_of c.as_slice.ensures) (Ok c.in-Ok.begun) (Ok (begun.Already c.in-Already.number)) (ap Ok c.in-Already.is) (record { answers = h.answers; untouched = h.untouched; does = h.does }) in
     let all = subst (λ (n : ℕ). SendsAll see (lent c.args.disk.now c.args.air.now c.args.clock.now) (lent c.start_task.new.disk c.args.air.now c.args.clock.now) (g.S.Shelf.held c.args.shelf.now) (g.S.Shelf.faults c.args.shelf.now)
-    (g.S.Shelf.faults c.load_file.new.shelf) c.args.terms.now c.args.name.now (Ok (record { number = n }))) (sym c.in-Ok-Already.number-is) (already-all see g.met.D.Disk.lasts_same g.met.D.Disk.lasts_on (lent c.args.disk.now c.args.air.now c.args.clock.now) c.args.terms.now c.args.name.now c.in_ok-file.file (g.S.Shelf.held c.args.shelf.now) (g.S.Shelf.faults c.args.shelf.now)
-    (g.S.Shelf.faults c.load_file.new.shelf) c.in_ok-file.ensures.loads c.in_ok-file.ensures.sendable (c.in_ok-file.ensures.cause.same (ok-never _ stop.Shelf)) c.start_task.new.disk (record { number = c.in-Ok-Already.number }) s) in
+    (g.S.Shelf.faults c.load_file.new.shelf) c.args.terms.now c.args.name.now (Ok (record { number = n }))) (sym refl) (already-all see g.met.D.Disk.lasts_same g.met.D.Disk.lasts_on (lent c.args.disk.now c.args.air.now c.args.clock.now) c.args.terms.now c.args.name.now c.in_ok-file.file (g.S.Shelf.held c.args.shelf.now) (g.S.Shelf.faults c.args.shelf.now)
+    (g.S.Shelf.faults c.load_file.new.shelf) c.in_ok-file.ensures.loads c.in_ok-file.ensures.sendable (c.in_ok-file.ensures.cause.same (ok-never _ stop.Shelf)) c.start_task.new.disk (record { number = c.in-Already.number }) s) in
     record { file = all.file_is; notes = all.notes; ends = all.ends; held = c.in_ok-file.ensures.held; shelf = all.shelf; causes = all.causes_are }
 
 pub returns-in-Err : goal.returns-in-Err
@@ -45,43 +45,43 @@ returns-in-Err g c =
     (g.S.Shelf.faults c.load_file.new.shelf) c.in_ok-file.ensures.loads c.in_ok-file.ensures.sendable (c.in_ok-file.ensures.cause.same (ok-never _ stop.Shelf)) c.start_task.new.disk c.in-Err.refusal s) in
     record { file = all.file_is; notes = all.notes; ends = all.ends; held = c.in_ok-file.ensures.held; shelf = all.shelf; causes = all.causes_are }
 
-pub returns-in-Ok-Fresh : goal.returns-in-Ok-Fresh
-returns-in-Ok-Fresh g c =
+pub returns-in-Fresh : goal.returns-in-Fresh
+returns-in-Fresh g c =
     let see = seen g.D.Disk g.A.Air g.C.Clock.given in
-    let h = c.in-Ok-Fresh.ensures in
+    let h = c.in-Ok.ensures in
     let s = started g.D.Disk c.args.terms.now c.args.name.now c.in_ok-file.file c.args.disk.now c.recover_client.new.disk c.start_task.new.disk c.in_ok-client.client c.start_task.new.self c.in_ok-client.ensures.recovers h.same h.starts
-    c.sum_of_file-sum.result (c.sum_of_file-sum.ensures ∙ ap sum_of c.as_slice.ensures) (Ok c.in-Ok-Fresh.field-0) (Ok (begun.Fresh c.in-Ok-Fresh.task)) (ap Ok c.in-Ok-Fresh.field-0-is) (record { answers = h.answers; untouched = h.untouched; does = h.does }) in
+    c.sum_of_file-sum.result (c.sum_of_file-sum.ensures ∙ ap sum_of c.as_slice.ensures) (Ok c.in-Ok.begun) (Ok (begun.Fresh c.in-Fresh.task)) (ap Ok c.in-Fresh.is) (record { answers = h.answers; untouched = h.untouched; does = h.does }) in
     let all = upload-all see g.met.D.Disk.lasts_same g.met.D.Disk.lasts_on (lent c.args.disk.now c.args.air.now c.args.clock.now) c.args.terms.now c.args.name.now c.in_ok-file.file (g.S.Shelf.held c.args.shelf.now) (g.S.Shelf.faults c.args.shelf.now)
     (g.S.Shelf.faults c.load_file.new.shelf) c.in_ok-file.ensures.loads c.in_ok-file.ensures.sendable (c.in_ok-file.ensures.cause.same (ok-never _ stop.Shelf)) c.start_task.new.disk
-    (lent c.upload-client.new.disk c.upload-client.new.air c.upload-client.new.clock) (Ok (begun.Fresh c.in-Ok-Fresh.task)) s c.in-Ok-Fresh.task 0 _ (does-first g.D.Disk g.met.D.Disk.lasts_same c.args.terms.now c.args.name.now c.in_ok-file.file c.args.disk.now c.start_task.new.disk c.in-Ok-Fresh.task s) (fresh-task-for g.D.Disk g.met.D.Disk.lasts_same c.args.terms.now c.args.name.now c.in_ok-file.file c.args.disk.now c.start_task.new.disk c.in-Ok-Fresh.task s)
-    c.upload-client.result.0 c.upload-job.result (made-upload _ c.in-Ok-Fresh.task 0 _ 0 c.in_ok-file.file c.upload-job.ensures c.in-Ok-Fresh.task-is refl) c.upload-client.result.1 (c.upload-client.ensures.uploaded _ (asked-is g.D.Disk g.met.D.Disk.lasts_same c.args.terms.now c.args.name.now c.in_ok-file.file c.args.disk.now c.start_task.new.disk (Ok (begun.Fresh c.in-Ok-Fresh.task)) s)) in
+    (lent c.upload-client.new.disk c.upload-client.new.air c.upload-client.new.clock) (Ok (begun.Fresh c.in-Fresh.task)) s c.in-Fresh.task 0 _ (does-first g.D.Disk g.met.D.Disk.lasts_same c.args.terms.now c.args.name.now c.in_ok-file.file c.args.disk.now c.start_task.new.disk c.in-Fresh.task s) (fresh-task-for g.D.Disk g.met.D.Disk.lasts_same c.args.terms.now c.args.name.now c.in_ok-file.file c.args.disk.now c.start_task.new.disk c.in-Fresh.task s)
+    c.upload-client.result.0 c.upload-job.result (made-upload _ c.in-Fresh.task 0 _ _ c.in_ok-file.file c.upload-job.ensures refl c.new.ensures) c.upload-client.result.1 (c.upload-client.ensures.uploaded _ (asked-is g.D.Disk g.met.D.Disk.lasts_same c.args.terms.now c.args.name.now c.in_ok-file.file c.args.disk.now c.start_task.new.disk (Ok (begun.Fresh c.in-Fresh.task)) s)) in
     record { file = all.file_is; notes = all.notes; ends = all.ends; held = c.in_ok-file.ensures.held; shelf = all.shelf; causes = all.causes_are }
 
 pub upload-client-requires-clause-may : goal.upload-client-requires-clause-may
 upload-client-requires-clause-may g c =
-    let h = c.in-Ok-Fresh.ensures in
+    let h = c.in-Ok.ensures in
     let s = started g.D.Disk c.args.terms.now c.args.name.now c.in_ok-file.file c.args.disk.now c.recover_client.new.disk c.start_task.new.disk c.in_ok-client.client c.start_task.new.self c.in_ok-client.ensures.recovers h.same h.starts
-    c.sum_of_file-sum.result (c.sum_of_file-sum.ensures ∙ ap sum_of c.as_slice.ensures) (Ok c.in-Ok-Fresh.field-0) (Ok c.in-Ok-Fresh.field-0) (refl) (record { answers = h.answers; untouched = h.untouched; does = h.does }) in
-    may-carry g.D.Disk g.met.D.Disk.lasts_same c.args.terms.now c.args.name.now c.in_ok-file.file c.args.disk.now c.start_task.new.disk (Ok c.in-Ok-Fresh.field-0) s (h.may (λ e. cc e))
+    c.sum_of_file-sum.result (c.sum_of_file-sum.ensures ∙ ap sum_of c.as_slice.ensures) (Ok c.in-Ok.begun) (Ok c.in-Ok.begun) (refl) (record { answers = h.answers; untouched = h.untouched; does = h.does }) in
+    may-carry g.D.Disk g.met.D.Disk.lasts_same c.args.terms.now c.args.name.now c.in_ok-file.file c.args.disk.now c.start_task.new.disk (Ok c.in-Ok.begun) s (h.may (λ e. cc e))
 
-pub returns-in-Ok-Going : goal.returns-in-Ok-Going
-returns-in-Ok-Going g c =
+pub returns-in-Going : goal.returns-in-Going
+returns-in-Going g c =
     let see = seen g.D.Disk g.A.Air g.C.Clock.given in
-    let h = c.in-Ok-Going.ensures in
+    let h = c.in-Ok.ensures in
     let s = started g.D.Disk c.args.terms.now c.args.name.now c.in_ok-file.file c.args.disk.now c.recover_client.new.disk c.start_task.new.disk c.in_ok-client.client c.start_task.new.self c.in_ok-client.ensures.recovers h.same h.starts
-    c.sum_of_file-sum.result (c.sum_of_file-sum.ensures ∙ ap sum_of c.as_slice.ensures) (Ok c.in-Ok-Going.field-0) (Ok (begun.Going c.in-Ok-Going.task c.in-Ok-Going.number)) (ap Ok c.in-Ok-Going.field-0-is) (record { answers = h.answers; untouched = h.untouched; does = h.does }) in
+    c.sum_of_file-sum.result (c.sum_of_file-sum.ensures ∙ ap sum_of c.as_slice.ensures) (Ok c.in-Ok.begun) (Ok (begun.Going c.in-Going.task c.in-Going.number)) (ap Ok c.in-Going.is) (record { answers = h.answers; untouched = h.untouched; does = h.does }) in
     let all = upload-all see g.met.D.Disk.lasts_same g.met.D.Disk.lasts_on (lent c.args.disk.now c.args.air.now c.args.clock.now) c.args.terms.now c.args.name.now c.in_ok-file.file (g.S.Shelf.held c.args.shelf.now) (g.S.Shelf.faults c.args.shelf.now)
     (g.S.Shelf.faults c.load_file.new.shelf) c.in_ok-file.ensures.loads c.in_ok-file.ensures.sendable (c.in_ok-file.ensures.cause.same (ok-never _ stop.Shelf)) c.start_task.new.disk
-    (lent c.upload-client-in-Ok-Going.new.disk c.upload-client-in-Ok-Going.new.air c.upload-client-in-Ok-Going.new.clock) (Ok (begun.Going c.in-Ok-Going.task c.in-Ok-Going.number)) s c.in-Ok-Going.task c.in-Ok-Going.number _ (does-going g.D.Disk g.met.D.Disk.lasts_same c.args.terms.now c.args.name.now c.in_ok-file.file c.args.disk.now c.start_task.new.disk c.in-Ok-Going.task c.in-Ok-Going.number s) (going-task-for g.D.Disk g.met.D.Disk.lasts_same c.args.terms.now c.args.name.now c.in_ok-file.file c.args.disk.now c.start_task.new.disk c.in-Ok-Going.task c.in-Ok-Going.number s)
-    c.upload-client-in-Ok-Going.result.0 c.upload-job-in-Ok-Going.result (made-upload _ c.in-Ok-Going.task c.in-Ok-Going.number _ _ c.in_ok-file.file c.upload-job-in-Ok-Going.ensures c.in-Ok-Going.task-is c.in-Ok-Going.number-is) c.upload-client-in-Ok-Going.result.1 (c.upload-client-in-Ok-Going.ensures.uploaded _ (asked-is g.D.Disk g.met.D.Disk.lasts_same c.args.terms.now c.args.name.now c.in_ok-file.file c.args.disk.now c.start_task.new.disk (Ok (begun.Going c.in-Ok-Going.task c.in-Ok-Going.number)) s)) in
+    (lent c.upload-client-in-Going.new.disk c.upload-client-in-Going.new.air c.upload-client-in-Going.new.clock) (Ok (begun.Going c.in-Going.task c.in-Going.number)) s c.in-Going.task c.in-Going.number _ (does-going g.D.Disk g.met.D.Disk.lasts_same c.args.terms.now c.args.name.now c.in_ok-file.file c.args.disk.now c.start_task.new.disk c.in-Going.task c.in-Going.number s) (going-task-for g.D.Disk g.met.D.Disk.lasts_same c.args.terms.now c.args.name.now c.in_ok-file.file c.args.disk.now c.start_task.new.disk c.in-Going.task c.in-Going.number s)
+    c.upload-client-in-Going.result.0 c.upload-job-in-Going.result (made-upload _ c.in-Going.task c.in-Going.number _ _ c.in_ok-file.file c.upload-job-in-Going.ensures refl refl) c.upload-client-in-Going.result.1 (c.upload-client-in-Going.ensures.uploaded _ (asked-is g.D.Disk g.met.D.Disk.lasts_same c.args.terms.now c.args.name.now c.in_ok-file.file c.args.disk.now c.start_task.new.disk (Ok (begun.Going c.in-Going.task c.in-Going.number)) s)) in
     record { file = all.file_is; notes = all.notes; ends = all.ends; held = c.in_ok-file.ensures.held; shelf = all.shelf; causes = all.causes_are }
 
-pub upload-client-requires-in-Ok-Going-clause-may : goal.upload-client-requires-in-Ok-Going-clause-may
-upload-client-requires-in-Ok-Going-clause-may g c =
-    let h = c.in-Ok-Going.ensures in
+pub upload-client-requires-in-Going-clause-may : goal.upload-client-requires-in-Going-clause-may
+upload-client-requires-in-Going-clause-may g c =
+    let h = c.in-Ok.ensures in
     let s = started g.D.Disk c.args.terms.now c.args.name.now c.in_ok-file.file c.args.disk.now c.recover_client.new.disk c.start_task.new.disk c.in_ok-client.client c.start_task.new.self c.in_ok-client.ensures.recovers h.same h.starts
-    c.sum_of_file-sum.result (c.sum_of_file-sum.ensures ∙ ap sum_of c.as_slice.ensures) (Ok c.in-Ok-Going.field-0) (Ok c.in-Ok-Going.field-0) (refl) (record { answers = h.answers; untouched = h.untouched; does = h.does }) in
-    may-carry g.D.Disk g.met.D.Disk.lasts_same c.args.terms.now c.args.name.now c.in_ok-file.file c.args.disk.now c.start_task.new.disk (Ok c.in-Ok-Going.field-0) s (h.may (λ e. cc e))
+    c.sum_of_file-sum.result (c.sum_of_file-sum.ensures ∙ ap sum_of c.as_slice.ensures) (Ok c.in-Ok.begun) (Ok c.in-Ok.begun) (refl) (record { answers = h.answers; untouched = h.untouched; does = h.does }) in
+    may-carry g.D.Disk g.met.D.Disk.lasts_same c.args.terms.now c.args.name.now c.in_ok-file.file c.args.disk.now c.start_task.new.disk (Ok c.in-Ok.begun) s (h.may (λ e. cc e))
 
 pub returns-in_err-client-clause-notes : goal.returns-in_err-client-clause-notes
 returns-in_err-client-clause-notes g c =

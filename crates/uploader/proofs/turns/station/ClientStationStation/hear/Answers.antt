@@ -17,8 +17,12 @@ returns-in-Err-clause-takes g c =
     let frame = value_of c.args.frame.now in
     let old = at c.args.self.now c.args.disk.now in
     let new = at {S = ClientStation} (record { client = c.hear.new.self; halted = true }) c.hear.new.disk in (
-      refl,
-      λ past h.
-          event-halted g.D.Disk g.met.D.Disk.lasts_same g.met.D.Disk.lasts_on c.goes_law.ensures old new c.requires.fit frame c.args._moment c.in-Err.why past h
-          (c.in-Err.ensures.hears h.now h.is).by,
+      c.in-Err.why,
+      c.from.ensures,
+      (
+        refl,
+        λ past h.
+            event-halted g.D.Disk g.met.D.Disk.lasts_same g.met.D.Disk.lasts_on c.goes_law.ensures old new c.requires.fit frame c.args._moment c.in-Err.why past h
+            (c.in-Err.ensures.hears h.now h.is).by,
+      ),
     )
