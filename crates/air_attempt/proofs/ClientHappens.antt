@@ -1,8 +1,10 @@
 -- What a frame and a tick make of an attempt, by the laws of a client's attempts.
-use Rattle.std.proofs.Common.{◌≡◌, [], true, false, Option, None, Some, refl, sym, ◌∙◌}
+use Rattle.std.proofs.Common.{◌≡◌, [], true, false, Option, None, Some, refl, sym, ap, ◌∙◌}
+use Rattle.std.specs.Prelude.{if◌then◌else◌, ◌&&◌}
+use Rattle.ax25_link.specs.declared.state.Why.TheVariants as why
 use Rattle.ftl0_client.specs.Attempt.Hearing.{hearing}
 use Rattle.ftl0_client.specs.Entries.{HearingLaw}
-use Rattle.air_attempt.proofs.Names.{FrameValue, Why, LinkEnd, heard_of_tick, refusal_frame, row, after_tick, told_of_tick, Window, after_all, Lists, Attempted, after_told, packets_told, ticking, with_end, IsToldDown, OutcomeLaw, settled, TickingLaw, entries_heard, entries_ticked}
+use Rattle.air_attempt.proofs.Names.{FrameValue, LinkState, Why, LinkEnd, heard_of_tick, refusal_frame, row, row_of_state, after_tick, is_down, is_spent, runs_out, told_of_tick, Window, after_all, Lists, Attempted, after_told, packets_told, ticking, with_end, IsToldDown, OutcomeLaw, settled, TickingLaw, entries_heard, entries_ticked}
 use Rattle.air_attempt.proofs.ClientJob.{Happens}
 use Rattle.air_attempt.proofs.ClientRows.{frame-comes, tick-comes, tick_outcome}
 use Rattle.air_attempt.proofs.ClientWorks.{after_of}
@@ -23,7 +25,7 @@ frame-happens law outcome w lists a f called told =
       items = heard.1;
       goes = heard.2;
       told_down = became.0;
-      stays = became.1;
+      silent = λ down. ap (λ (s : LinkState). (row_of_state s w a.end f).heard) down;
     }
 
 -- a tick brings no packet
@@ -51,5 +53,10 @@ tick-happens law outcome w lists a told =
       items = tick-items a (told_of_tick a.end) ∙ sym ticked.1;
       goes = ticked.2;
       told_down = became.0;
-      stays = became.1;
+      silent =
+          λ down.
+          ap
+          (λ (s : LinkState).
+          heard_of_tick (if is_down s then None else if runs_out a.end && is_spent a.end then Some why.NoAnswer else None))
+          down;
     }

@@ -1,6 +1,6 @@
 -- A job goes on by what a frame or a tick makes of it: it is still one that its packets lead to.
 use Rattle.std.proofs.Common.{◌≡◌, ℕ, List, [], ◌++◌, sym, ap, ap₂, ◌∙◌, subst, append-nil}
-use Rattle.air_attempt.proofs.Names.{AllByRecursion, concat, IsOctets, texts, Fits, Item, PacketValue, packets_of, rest_of, Doing, DoesAll, Heard, Nothing, Opened, Reopened, Bytes, Closed, LinkState, LinkEnd, Outcome, Lists, NotesGoWith, new_job, Attempted, after_told, packets_told, with_end, IsToldDown, StaysReached, GoesBy, JobEntry, items_in, said_in, WorkFits, ClientSide, IsJob}
+use Rattle.air_attempt.proofs.Names.{AllByRecursion, concat, IsOctets, texts, Fits, Item, PacketValue, packets_of, rest_of, Doing, DoesAll, Heard, Nothing, Opened, Reopened, Bytes, Closed, LinkState, Down, LinkEnd, Outcome, Lists, NotesGoWith, new_job, Attempted, after_told, packets_told, with_end, IsToldDown, GoesBy, JobEntry, items_in, said_in, WorkFits, ClientSide, IsJob}
 use Rattle.air_attempt.proofs.ClientRows.{Comes}
 use Rattle.air_attempt.proofs.ClientWorks.{CallsOrUp, KeepsWorking, after_of, keeps-working, rest-kept}
 use Rattle.air_attempt.proofs.JobAppend.{items-then, reaches-by, reaches-then, said-then, texts-then}
@@ -54,7 +54,7 @@ pub record Happens (lists last : Lists) (a : Attempted) (o : Outcome) (informati
   pub items : packets_told o.heard a information ≡ items_in entries
   pub goes : GoesBy lists a.job entries last now.job
   pub told_down : IsToldDown now
-  pub stays : StaysReached a now
+  pub silent : a.end.state ≡ Down → o.heard ≡ Nothing
 
 -- what the job needs so that what it says fits
 pub record SaysInRange (lists : Lists) (side : ClientSide) : Type 0 where
@@ -77,8 +77,7 @@ module _ (lists last : Lists) (side : ClientSide) (o : Outcome) (information : L
       let a : Attempted = side.attempted in
       let before : KeepsWorking a = record { closed = job.closed; working = job.working } in
       subst KeepsWorking (sym happens.now_is)
-      (keeps-working lists a o.after information before o.heard happens.comes.state
-      (subst (StaysReached a) happens.now_is happens.stays))
+      (keeps-working lists a o.after information before job.told_down o.heard happens.comes.state happens.silent)
 
   pub job-goes-on : IsOctets (concat end.taken) → IsJob (gone_on entries now end side)
   job-goes-on octets =

@@ -4,9 +4,8 @@ use Rattle.std.proofs.Common.{◌≡◌, ◌⊎◌, ℕ, List, [], ◌∷◌, Bo
 use Rattle.std.proofs.Common.{subst}
 use Rattle.std.specs.Prelude.{if◌then◌else◌, ◌&&◌}
 use Rattle.packet_link.specs.Queuing.{fits}
-use Rattle.ftl0_client.specs.declared.attempt.outcome.AttemptOutcome.TheVariants.{LinkDown}
 use Rattle.ftl0_client.specs.Attempt.Hearing.{closing}
-use Rattle.air_attempt.proofs.Names.{cond_both, kind_of_item, texts, Item, after_hang_up, after_push, Heard, Nothing, Opened, Reopened, Bytes, Closed, LinkState, Calling, Up, Down, Why, LinkEnd, free_octets, is_up, filling-keeps, after_all, Lists, Ending, Work, DuePacket, due_by, next_due, JobState, job_after, job_row, Attempted, outcome_by, outcome_of, after_told, down_by, packets_told, with_end, StaysReached, after_due, is_all_free, is_later, parting_later, queuing, settled, after_replies, parting, replied, taking, taking_by, taking_one}
+use Rattle.air_attempt.proofs.Names.{cond_both, kind_of_item, texts, Item, after_hang_up, after_push, Heard, Nothing, Opened, Reopened, Bytes, Closed, LinkState, Calling, Up, Down, Why, LinkEnd, free_octets, is_up, filling-keeps, after_all, Lists, Ending, Work, DuePacket, due_by, next_due, JobState, job_after, job_row, Attempted, outcome_by, outcome_of, after_told, down_by, packets_told, with_end, IsToldDown, after_due, is_all_free, is_later, parting_later, queuing, settled, after_replies, parting, replied, taking, taking_by, taking_one}
 use Rattle.air_attempt.proofs.ClientRows.{StateAs}
 
 abbrev pub CallsOrUp : LinkState → Type 0
@@ -115,10 +114,6 @@ none-outcome None None is = (refl, refl)
 none-outcome None (Some why) is = absurd (cc is)
 none-outcome (Some ending) down is = absurd (cc is)
 
-down-outcome : (o : Option Ending) (down : Option Why) (why : Why) → outcome_by o down ≡ Some (LinkDown why) → o ≡ None
-down-outcome None down why is = refl
-down-outcome (Some ending) down why is = absurd (cc is)
-
 -- the attempt at the end of an event, once this was told
 abbrev pub after_of : Lists → Attempted → LinkEnd → List ℕ → Heard → Attempted
 after_of lists a end octets told =
@@ -136,23 +131,19 @@ pub rest-kept : (lists : Lists) (a : Attempted) (end : LinkEnd) (octets : List �
 rest-kept lists a end octets told =
     (goes-all lists (after_told told (with_end a end) octets) (packets_told told a octets)).rest
 
-module _ (lists : Lists) (a : Attempted) (end : LinkEnd) (octets : List ℕ) (keeps : KeepsWorking a) where
-  -- it goes on from one that was told nothing of the link's end
+module _ (lists : Lists) (a : Attempted) (end : LinkEnd) (octets : List ℕ) (keeps : KeepsWorking a)
+    (told_down : IsToldDown a) where
+  -- It goes on from one that was told nothing of the link's end. Where the link went down before an outcome, none comes.
   goes-on : (next : Attempted) (items : List Item) → next.down ≡ a.down → next.job ≡ a.job
       → (CallsOrUp a.end.state → CallsOrUp next.end.state)
-      → StaysReached a (settled (taking lists next items).after)
+      → ((why : Why) → a.down ≡ Some why → (settled (taking lists next items).after).job.ending ≡ None)
       → KeepsWorking (settled (taking lists next items).after)
-  goes-on next items down job state stays =
+  goes-on next items down job state still =
       let now : Attempted = settled (taking lists next items).after in
       let goes : GoesFrom next now = goes-all lists next items in
       let same : now.down ≡ a.down = goes.down ∙ down in
       record {
-        closed = λ why is.
-            let before : a.down ≡ Some why = sym same ∙ is in
-            let reached : outcome_of a ≡ Some (LinkDown why) =
-            ap (λ (o : Option Ending). outcome_by o a.down) (keeps.closed why before)
-            ∙ ap (λ (d : Option Why). outcome_by None d) before in
-            down-outcome now.job.ending now.down why (stays (LinkDown why) reached);
+        closed = λ why is. still why (sym same ∙ is);
         working = λ none.
             let both = none-outcome now.job.ending now.down none in
             goes.works
@@ -182,14 +173,23 @@ module _ (lists : Lists) (a : Attempted) (end : LinkEnd) (octets : List ℕ) (ke
   same-works : (before now : LinkState) → now ≡ before → CallsOrUp before → CallsOrUp now
   same-works before now same works = subst CallsOrUp (sym same) works
 
-  -- so it is after each event
-  pub keeps-working : (told : Heard) → StateAs told a.end.state end.state
-      → StaysReached a (after_of lists a end octets told) → KeepsWorking (after_of lists a end octets told)
-  keeps-working Nothing is stays = goes-on (with_end a end) [] refl refl (same-works a.end.state end.state is) stays
-  keeps-working Opened is stays = goes-on (with_end a end) [] refl refl (λ works. inr is) stays
-  keeps-working Reopened is stays = goes-on (with_end a end) [] refl refl (same-works a.end.state end.state is) stays
-  keeps-working Bytes is stays =
+  -- so it is after each event; a link that is down tells of nothing
+  pub keeps-working : (told : Heard) → StateAs told a.end.state end.state → (a.end.state ≡ Down → told ≡ Nothing)
+      → KeepsWorking (after_of lists a end octets told)
+  keeps-working Nothing is silent =
+      goes-on (with_end a end) [] refl refl (same-works a.end.state end.state is)
+      (λ why down.
+      ap (λ (now : Attempted). now.job.ending) (settled-down (with_end a end) (is ∙ told_down why down))
+      ∙ keeps.closed why down)
+  keeps-working Opened is silent =
+      goes-on (with_end a end) [] refl refl (λ works. inr is)
+      (λ why down. absurd (let no : Opened ≡ Nothing = silent (told_down why down) in cc no))
+  keeps-working Reopened is silent =
+      goes-on (with_end a end) [] refl refl (same-works a.end.state end.state is)
+      (λ why down. absurd (let no : Reopened ≡ Nothing = silent (told_down why down) in cc no))
+  keeps-working Bytes is silent =
       goes-on (after_told Bytes (with_end a end) octets) (packets_told Bytes a octets) refl refl
-      (same-works a.end.state end.state is) stays
-  keeps-working (Closed why) is stays =
+      (same-works a.end.state end.state is)
+      (λ why down. absurd (let no : Bytes ≡ Nothing = silent (told_down why down) in cc no))
+  keeps-working (Closed why) is silent =
       subst KeepsWorking (sym (settled-down (closing (with_end a end) why) is)) (closes why is)

@@ -34,7 +34,7 @@ pub use Rattle.file_store.specs.Command.{}
 pub use Rattle.file_store.specs.Store.{Store}
 pub use Rattle.ftl0_client.specs.Attempt.Attempted.{Attempted, calling, outcome_by, outcome_of}
 pub use Rattle.ftl0_client.specs.Attempt.Hearing.{after_told, down_by, packets_told, ticking, with_end}
-pub use Rattle.ftl0_client.specs.Attempt.Laws.{IsToldDown, OutcomeLaw, StaysReached}
+pub use Rattle.ftl0_client.specs.Attempt.Laws.{IsToldDown, OutcomeLaw}
 pub use Rattle.ftl0_client.specs.Attempt.Settling.{after_due, is_all_free, is_later, parting_later, queuing, settled}
 pub use Rattle.ftl0_client.specs.Attempt.Taking.{after_replies, parting, quietly, replied, taking, taking_by, taking_one}
 pub use Rattle.ftl0_client.specs.Entries.{GoesBy, JobEntry, TickingLaw, after_losing, entries_behind, entries_due, entries_heard, entries_taken, entries_ticked, items_in, items_of, lost, packets_said, passed, queued, said_in, took}

@@ -7,7 +7,7 @@ use Rattle.ftl0_job.specs.declared.work.Work.TheVariants as work
 use Rattle.ftl0_client.specs.Entries as job
 use Rattle.air_files.specs.DownloadDialogue as download
 use Rattle.air_files.specs.UploadDialogue.{silent}
-use Rattle.air_files.proofs.Names.{IfSome, drop, slice_get, AllByRecursion, option_map, All-nil, IsOctets, PacketValue, ul_ack_resp, ul_error_resp, ul_go_resp, upload_cmd, Why, Store, IsDueIn, octets_due, State, command, download_part, greeting, receiving, SessionEntry, Outcome, Work, Download, IsNotBegun, JobState, Reached, outcome_by, JobEntry, Attempt, Has, OneIs, Asked, Party, all_over, over, sessions_over, IsAnswer, IsTaken, Took, octets_said, ClientSide, ServerSide, said_by_client, said_by_server, each-weaker, some-weaker, IsListSaid, IsOfListing, Says, Serves, FetchesBy, FetchesIn, GoesOnWithTask, HasFacts, IsFetching, IsGranted, coming_by, IsBeginning, IsGreeted, with_attempt, answered_in, unasked}
+use Rattle.air_files.proofs.Names.{IfSome, drop, slice_get, AllByRecursion, option_map, All-nil, IsOctets, PacketValue, ul_ack_resp, ul_error_resp, ul_go_resp, upload_cmd, Why, Store, IsDueIn, octets_due, State, command, download_part, greeting, receiving, SessionEntry, Work, Download, IsNotBegun, JobState, outcome_by, JobEntry, Attempt, Has, OneIs, Asked, Party, all_over, over, sessions_over, IsAnswer, IsTaken, Took, octets_said, ClientSide, ServerSide, said_by_client, said_by_server, each-weaker, some-weaker, IsListSaid, IsOfListing, Says, Serves, FetchesBy, FetchesIn, GoesOnWithTask, HasFacts, IsFetching, IsGranted, coming_by, IsBeginning, IsGreeted, with_attempt, answered_in, unasked}
 use Rattle.air_files.proofs.ApartLemmas.{HasClientFacts, HasFactsApart, HasSideFacts, apart, together}
 use Rattle.air_files.proofs.GoneLemmas.{facts-over, like-fetches_by}
 use Rattle.air_files.proofs.LikeLemmas.{like-client, like-side, number-like}
@@ -23,12 +23,12 @@ nothing-said side none = ap job.said_in none
 not-said : (side : ClientSide) (packet : PacketValue) → side.entries ≡ [] → Has (said_by_client side) packet → ⊥
 not-said side packet none said = subst (λ packets. Has packets packet) (nothing-said side none) said
 
-not-reached : (ending : JobState) (down : Option Why) (outcome : Outcome) → ending.ending ≡ None
-    → outcome_by ending.ending down ≡ Some (Reached outcome) → ⊥
-not-reached it down outcome none is = by down
-    (subst (λ ending. outcome_by ending down ≡ Some (Reached outcome)) none is)
+not-fetched : (ending : JobState) (down : Option Why) (number : ℕ) → ending.ending ≡ None
+    → outcome_by ending.ending down ≡ Some (reached.Fetched number) → ⊥
+not-fetched it down number none is = by down
+    (subst (λ ending. outcome_by ending down ≡ Some (reached.Fetched number)) none is)
   where
-    by : (down : Option Why) → outcome_by None down ≡ Some (Reached outcome) → ⊥
+    by : (down : Option Why) → outcome_by None down ≡ Some (reached.Fetched number) → ⊥
     by None is = cc
     by (Some why) is = cc
 
@@ -59,7 +59,7 @@ begun-client party a begins goes_on = record {
       record { entry = has.entry; is_entry = has.is_entry; number_is = has.number_is; some = has.some };
   says = silent-says a.client.asked a.client begins.entries;
   fetched = λ number is.
-      absurd (not-reached a.client.attempted.job a.client.attempted.down (reached.Fetched number)
+      absurd (not-fetched a.client.attempted.job a.client.attempted.down number
       (ap (λ (it : JobState). it.ending) begins.job) is);
   asked_within = λ number offset asked. absurd (not-said a.client _ begins.entries asked);
 }

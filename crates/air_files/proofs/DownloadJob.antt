@@ -5,7 +5,7 @@ use Rattle.client_notes.specs.Several as notes
 use Rattle.ftl0_job.specs.declared.ending.Outcome.TheVariants as outcome
 use Rattle.ftl0_job.specs.declared.work.Work.TheVariants as work
 use Rattle.ftl0_client.specs.Entries as job
-use Rattle.air_files.proofs.Names.{CallSign, kind_of_item, Item, PacketValue, download_cmd, fault_code, Store, NotesCommand, after_all, Lists, got_of, Ending, Work, Download, download_row, new_download, IsCheckedIn, IsNotBegun, Row, strange_ending, JobState, item_row, job_after, job_row, new_job, row_of, Upload, new_upload, Attempted, outcome_by, Reached, GoesBy, JobEntry, after_losing, lost, passed, queued, took, Attempt, Has, Asked, Party, JobReaches, ServerSide, said_by_client, said_by_server, flat_map-one, one-cases, reaches-by, reaches-then, some-at, Says, Serves, AskedWithin, FetchesBy, FetchesIn, IsDownloadOf, TookFront, job_gone, with_job, IsWork}
+use Rattle.air_files.proofs.Names.{CallSign, kind_of_item, Item, PacketValue, download_cmd, fault_code, Store, NotesCommand, after_all, Lists, got_of, Ending, Work, Download, download_row, new_download, IsCheckedIn, IsNotBegun, Row, strange_ending, JobState, item_row, job_after, job_row, new_job, row_of, Upload, new_upload, Attempted, outcome_by, GoesBy, JobEntry, after_losing, lost, passed, queued, took, Attempt, Has, Asked, Party, JobReaches, ServerSide, said_by_client, said_by_server, flat_map-one, one-cases, reaches-by, reaches-then, some-at, Says, Serves, AskedWithin, FetchesBy, FetchesIn, IsDownloadOf, TookFront, job_gone, with_job, IsWork}
 use Rattle.air_files.proofs.DownloadJobHeard.{IsNext, next-of}
 use Rattle.air_files.proofs.DownloadJobNotes.{Downloading, RowKept, packet-kept}
 use Rattle.air_files.proofs.DownloadJobRows.{download_at}
@@ -281,10 +281,10 @@ module _ (store : Store) (files : List Asked) (c : ℕ) (base : Party) (a : Atte
     }
       where
         passed-outcome : (n : ℕ) → HasReached job_is.ending n
-            → outcome_by job_is.ending a.client.attempted.down ≡ Some (Reached (outcome.Fetched n))
+            → outcome_by job_is.ending a.client.attempted.down ≡ Some (outcome.Fetched n)
         passed-outcome n reached =
             ap (λ (o : Option Ending). outcome_by o a.client.attempted.down) reached.is
-            ∙ ap (λ o. Some (Reached o)) reached.reached
+            ∙ ap (λ o. Some o) reached.reached
 
         passed-fetching : (entry : JobEntry) (lists_then : Lists) → job_is.ending ≢ None → lists_then ≡ lists
             → now.job ≡ job_is

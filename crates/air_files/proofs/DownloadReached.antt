@@ -1,7 +1,7 @@
 -- What a job that fetched a file reached and said.
 use Rattle.std.proofs.Common.{◌≡◌, ℕ, refl, Option, None, Some}
 use Rattle.ftl0_job.specs.declared.ending.Outcome.TheVariants as outcome
-use Rattle.air_files.proofs.Names.{CallSign, Why, Ending, JobState, outcome_by, Reached, ClientSide, Fetching, IsFetchingFile, SaysDownload, asked, silent, told}
+use Rattle.air_files.proofs.Names.{CallSign, Why, Ending, JobState, outcome_by, ClientSide, Fetching, IsFetchingFile, SaysDownload, asked, silent, told}
 use Rattle.air_files.proofs.DownloadJobSaid.{DoesDownload, Told}
 
 -- the outcome of an attempt that a file was fetched is its job's
@@ -10,7 +10,7 @@ pub record HasReached (o : Option Ending) (n : ℕ) : Type 0 where
   pub is : o ≡ Some ending
   pub reached : ending.outcome ≡ outcome.Fetched n
 
-pub reached-of : (o : Option Ending) (down : Option Why) (n : ℕ) → outcome_by o down ≡ Some (Reached (outcome.Fetched n))
+pub reached-of : (o : Option Ending) (down : Option Why) (n : ℕ) → outcome_by o down ≡ Some (outcome.Fetched n)
     → HasReached o n
 reached-of None None n is = absurd (cc)
 reached-of None (Some why) n is = absurd (cc)

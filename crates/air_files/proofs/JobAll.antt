@@ -3,12 +3,13 @@ use Rattle.std.proofs.Common.{◌≡◌, ◌⊎◌, ℕ, ◌+◌, ◌-◌, ◌<�
 use Rattle.std.proofs.Common.{refl, sym, ◌∙◌, ap, subst, append_assoc, append-nil, take_all, le_refl, le_of_lt, arith}
 use Rattle.ftl0_server.specs.Entries as session
 use Rattle.client_notes.specs.Several as notes
+use Rattle.ftl0_job.specs.declared.ending.Outcome.TheVariants as outcome
 use Rattle.ftl0_job.specs.declared.work.Work.TheVariants as work
 use Rattle.ftl0_job.specs.Laws.{DueLaw, PromisesLaw}
 use Rattle.ftl0_client.specs.Entries as job
-use Rattle.air_files.proofs.Names.{⊤, cases_lt, map-append, take-append-le, flat_map-append, kind_of_item, Item, Store, NotesCommand, after_all, Lists, after_first-then, Outcome, Work, EndPromises, JobStands, Row, strange_ending, JobState, job_after, new_job, Attempted, outcome_of, Reached, GoesBy, JobEntry, after_losing, lost, passed, queued, took, Attempt, AreFirstOf, Asked, Party, ServerSide, said_by_client, said_by_server, each-weaker, reaches-by, reaches-then, HasFacts, IsDirectoryOf, IsDownloadOf, IsUploadOf, JobKeeps, JobLaw, JobTookFront, Stands, TookFront, job_gone, started_with, with_job, IsWork}
+use Rattle.air_files.proofs.Names.{⊤, cases_lt, map-append, take-append-le, flat_map-append, kind_of_item, Item, Store, NotesCommand, after_all, Lists, after_first-then, Work, EndPromises, JobStands, Row, strange_ending, JobState, job_after, new_job, Attempted, outcome_of, GoesBy, JobEntry, after_losing, lost, passed, queued, took, Attempt, AreFirstOf, Asked, Party, ServerSide, said_by_client, said_by_server, each-weaker, reaches-by, reaches-then, HasFacts, IsDirectoryOf, IsDownloadOf, IsUploadOf, JobKeeps, JobLaw, JobTookFront, Stands, TookFront, job_gone, started_with, with_job, IsWork}
 use Rattle.air_files.proofs.JobChange.{moved}
-use Rattle.air_files.proofs.JobEarlier.{earlier, outcome-stays}
+use Rattle.air_files.proofs.JobEarlier.{earlier, fetched-stays}
 use Rattle.air_files.proofs.JobNotes.{NotesKept}
 use Rattle.air_files.proofs.JobOne.{OneLaw, keeps-same, working}
 use Rattle.air_files.proofs.JobStep.{keeps-by, left, of_attempts}
@@ -188,8 +189,8 @@ module _ (promises : PromisesLaw) (due_stands : DueLaw) where
     keeps-then : (base : Party) (a : Attempt) (older : List Attempt) → Working store files c base a older
         → (entry : JobEntry) (entries : List JobEntry)
         (lists_then lists : Lists) (then_is now : Attempted)
-        → ((reached : Outcome) → outcome_of a.client.attempted ≡ Some (Reached reached)
-        → outcome_of then_is ≡ Some (Reached reached))
+        → ((number : ℕ) → outcome_of a.client.attempted ≡ Some (outcome.Fetched number)
+        → outcome_of then_is ≡ Some (outcome.Fetched number))
         → OneKept store files base a older entry lists_then then_is
         → JobKeeps store files (of_attempts (with_job (of_attempts base a older) lists_then then_is
         (job_gone (entry ∷ []) then_is a) older) (job_gone (entry ∷ []) then_is a) older)
@@ -260,8 +261,8 @@ module _ (promises : PromisesLaw) (due_stands : DueLaw) where
         let kept = one store files c base a older w tt entry split.lists_then then_is split.first front.0
         (first-front a entry entries front.0 front.1) in
         keeps-then base a older w entry entries split.lists_then lists then_is now
-        (λ reached is. outcome-stays entry base.client.lists split.lists_then a.client.attempted.job split.then_is
-        a.client.attempted.down reached split.first is) kept
+        (λ number is. fetched-stays entry base.client.lists split.lists_then a.client.attempted.job split.then_is
+        a.client.attempted.down number split.first is) kept
         (keeps-all entries (with_job (of_attempts base a older) split.lists_then then_is
         (job_gone (entry ∷ []) then_is a) older) (job_gone (entry ∷ []) then_is a) older
         (working-then base a older w entry split.lists_then then_is split.first kept) lists now split.others

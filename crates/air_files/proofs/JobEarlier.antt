@@ -4,7 +4,7 @@ use Rattle.std.proofs.Common.{subst, suc, zero}
 use Rattle.ftl0_server.specs.Entries as session
 use Rattle.ftl0_job.specs.declared.ending.Outcome.TheVariants as outcome
 use Rattle.ftl0_client.specs.Entries as job
-use Rattle.air_files.proofs.Names.{PacketValue, data_end, data_part, download_cmd, ul_go_resp, Why, Store, Lists, Ending, Outcome, JobState, Attempted, outcome_by, outcome_of, LinkDown, Reached, GoesBy, JobEntry, lost, passed, queued, took, Attempt, Has, Asked, Party, IsTaken, octets_come, due-none, one-left, HasFacts, HasNumber, job_gone, started_with, GoesOnWith}
+use Rattle.air_files.proofs.Names.{PacketValue, data_end, data_part, download_cmd, ul_go_resp, Why, Store, Lists, Ending, JobState, Attempted, outcome_by, outcome_of, GoesBy, JobEntry, lost, passed, queued, took, Attempt, Has, Asked, Party, IsTaken, octets_come, due-none, one-left, HasFacts, HasNumber, job_gone, started_with, GoesOnWith}
 use Rattle.air_files.proofs.JobChange.{change}
 use Rattle.air_files.proofs.JobStep.{of_attempts}
 use Rattle.air_files.proofs.JobTook.{whole}
@@ -30,37 +30,37 @@ fewer-behind file zero place packets more goes = goes-fewer file packets more pl
 fewer-behind file (suc n) place [] more goes = tt
 fewer-behind file (suc n) place (packet ∷ packets) more goes = fewer-behind file n place packets more goes
 
--- ---- an outcome stays
+-- ---- a file that was fetched stays so
 
-pub reached-none : (down : Option Why) (reached : Outcome) → outcome_by None down ≡ Some (Reached reached) → ⊥
-reached-none None reached is = cc
-reached-none (Some why) reached is = let no : LinkDown why ≡ Reached reached = cc in cc no
+pub fetched-none : (down : Option Why) (number : ℕ) → outcome_by None down ≡ Some (outcome.Fetched number) → ⊥
+fetched-none None number is = cc
+fetched-none (Some why) number is = let no : outcome.LinkDown why ≡ outcome.Fetched number = cc in cc no
 
-unended : (o : Option Ending) (down : Option Why) (reached : Outcome) → o ≡ None
-    → outcome_by o down ≡ Some (Reached reached) → ⊥
-unended o down reached none is =
-    reached-none down reached (ap (λ (e : Option Ending). outcome_by e down) (sym none) ∙ is)
+unended : (o : Option Ending) (down : Option Why) (number : ℕ) → o ≡ None
+    → outcome_by o down ≡ Some (outcome.Fetched number) → ⊥
+unended o down number none is =
+    fetched-none down number (ap (λ (e : Option Ending). outcome_by e down) (sym none) ∙ is)
 
 -- what an entry leads to has the outcome that there was
-pub outcome-stays : (entry : JobEntry) (lists lists_now : Lists) (before now : JobState) (down : Option Why)
-    (reached : Outcome)
-    → GoesBy lists before (entry ∷ []) lists_now now → outcome_by before.ending down ≡ Some (Reached reached)
-    → outcome_by now.ending down ≡ Some (Reached reached)
-outcome-stays (took item row) lists lists_now before now down reached goes is =
-    absurd (unended before.ending down reached goes.0 is)
-outcome-stays (lost item row) lists lists_now before now down reached goes is =
-    absurd (unended before.ending down reached goes.0 is)
-outcome-stays (passed item) lists lists_now before now down reached goes is =
+pub fetched-stays : (entry : JobEntry) (lists lists_now : Lists) (before now : JobState) (down : Option Why)
+    (number : ℕ)
+    → GoesBy lists before (entry ∷ []) lists_now now → outcome_by before.ending down ≡ Some (outcome.Fetched number)
+    → outcome_by now.ending down ≡ Some (outcome.Fetched number)
+fetched-stays (took item row) lists lists_now before now down number goes is =
+    absurd (unended before.ending down number goes.0 is)
+fetched-stays (lost item row) lists lists_now before now down number goes is =
+    absurd (unended before.ending down number goes.0 is)
+fetched-stays (passed item) lists lists_now before now down number goes is =
     ap (λ (j : JobState). outcome_by j.ending down) goes.1.1 ∙ is
-outcome-stays (queued due) lists lists_now before now down reached goes is =
-    absurd (unended before.ending down reached (due-none before.ending before.work due goes.0) is)
+fetched-stays (queued due) lists lists_now before now down number goes is =
+    absurd (unended before.ending down number (due-none before.ending before.work due goes.0) is)
 
 -- ---- the client as it was
 
 pub earlier : (store : Store) (files : List Asked) (base : Party) (a : Attempt) (older : List Attempt)
     (entry : JobEntry) (now : Attempted) (lists : Lists)
-    → ((reached : Outcome) → outcome_of a.client.attempted ≡ Some (Reached reached)
-    → outcome_of now ≡ Some (Reached reached))
+    → ((number : ℕ) → outcome_of a.client.attempted ≡ Some (outcome.Fetched number)
+    → outcome_of now ≡ Some (outcome.Fetched number))
     → HasFacts store files (of_attempts base a older)
     → HasFacts store files (started_with (of_attempts base (job_gone (entry ∷ []) now a) older) lists)
     → HasFacts store files (started_with (of_attempts base a older) lists)
@@ -85,7 +85,7 @@ earlier store files base a older entry now lists stays before facts =
       got_front = facts.files_got.got_front;
       fetching = λ is. absurd (cc is);
       fetched = (
-        (λ number is. facts.files_got.fetched.0 number (stays (outcome.Fetched number) is)),
+        (λ number is. facts.files_got.fetched.0 number (stays number is)),
         facts.files_got.fetched.1,
       );
       asked_within = (
@@ -108,8 +108,8 @@ earlier store files base a older entry now lists stays before facts =
         → HasNumber (started_with (of_attempts base (job_gone (entry ∷ []) now a) older) lists) task number
     from task number n = record { entry = n.entry; is_entry = n.is_entry; number_is = n.number_is; some = n.some }
 
--- an outcome that isn't the link's doesn't depend on that
-pub reached-any : (o : Option Ending) (down other : Option Why) (reached : Outcome)
-    → outcome_by o down ≡ Some (Reached reached) → outcome_by o other ≡ Some (Reached reached)
-reached-any None down other reached is = absurd (reached-none down reached is)
-reached-any (Some ending) down other reached is = is
+-- whether a file was fetched doesn't depend on the link
+pub fetched-any : (o : Option Ending) (down other : Option Why) (number : ℕ)
+    → outcome_by o down ≡ Some (outcome.Fetched number) → outcome_by o other ≡ Some (outcome.Fetched number)
+fetched-any None down other number is = absurd (fetched-none down number is)
+fetched-any (Some ending) down other number is = is

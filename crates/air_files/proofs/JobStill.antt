@@ -1,11 +1,10 @@
 -- A job that took and queued nothing leaves its client's facts.
 use Rattle.std.proofs.Common.{◌≡◌, ℕ, List, [], ◌++◌, Option, None, Some, refl, sym, ◌∙◌, ap, subst, append-nil}
-use Rattle.ftl0_job.specs.declared.ending.Outcome.TheVariants as outcome
 use Rattle.ftl0_job.specs.declared.phases.DownloadPhase.TheVariants as fetch
 use Rattle.ftl0_job.specs.declared.work.Work.TheVariants as work
 use Rattle.air_files.proofs.Names.{Store, Lists, Ending, DownloadPhase, Work, JobState, Attempted, outcome_by, JobEntry, Attempt, Asked, Party, ServerSide, AreFirstIfAny, FetchesBy, FetchesIn, HasFacts, coming_by, got, JobKeeps, job_gone, with_job}
 use Rattle.air_files.proofs.JobChange.{moved}
-use Rattle.air_files.proofs.JobEarlier.{reached-any}
+use Rattle.air_files.proofs.JobEarlier.{fetched-any}
 use Rattle.air_files.proofs.JobSays.{says-still}
 use Rattle.air_files.proofs.JobStep.{JobKept, keeps-by, of_attempts}
 use Rattle.air_files.proofs.JobUploadNotes.{fronts-none}
@@ -57,7 +56,7 @@ module _ (store : Store) (files : List Asked) (base : Party) (a : Attempt) (olde
         (fetches-same a.client.attempted.job.ending a.client.attempted.job.work (facts.files_got.fetching link));
     fetched = λ number is.
         facts.files_got.fetched.0 number
-        (reached-any a.client.attempted.job.ending now.down a.client.attempted.down (outcome.Fetched number)
+        (fetched-any a.client.attempted.job.ending now.down a.client.attempted.down number
         (ap (λ (j : JobState). outcome_by j.ending now.down) (sym same) ∙ is));
     asked_within = facts.files_got.asked_within.0;
   }

@@ -4,7 +4,7 @@ use Rattle.ftl0_server.specs.Entries as session
 use Rattle.client_notes.specs.Several as notes
 use Rattle.ftl0_job.specs.declared.ending.Outcome.TheVariants as outcome
 use Rattle.ftl0_client.specs.Entries as job
-use Rattle.air_files.proofs.Names.{Item, PacketValue, Why, Store, after_all, Lists, Ending, IsNotBegun, JobStands, new_job, Attempted, outcome_by, Reached, JobEntry, Attempt, Has, OneIs, Asked, Party, IsTaken, JobReaches, ServerSide, said_by_client, said_by_server, one-left, HasFacts, Stands, TookFront, job_gone, with_job, IsSoundStore}
+use Rattle.air_files.proofs.Names.{Item, PacketValue, Why, Store, after_all, Lists, Ending, IsNotBegun, JobStands, new_job, Attempted, outcome_by, JobEntry, Attempt, Has, OneIs, Asked, Party, IsTaken, JobReaches, ServerSide, said_by_client, said_by_server, one-left, HasFacts, Stands, TookFront, job_gone, with_job, IsSoundStore}
 use Rattle.air_files.proofs.JobNotes.{NotesKept}
 use Rattle.air_files.proofs.JobStep.{JobKept, of_attempts}
 use Rattle.air_files.proofs.JobTook.{front-has, has-ok, last-item, map-ok, took-item, whole}
@@ -71,7 +71,7 @@ module _ (a : Attempt) (entry : JobEntry) (side : ServerSide) (front : TookFront
 
 -- what never fetches comes to no fetched file
 pub never-fetched : (o : Option Ending) (down : Option Why) (number : ℕ) → NeverFetched o
-    → outcome_by o down ≡ Some (Reached (outcome.Fetched number)) → ⊥
+    → outcome_by o down ≡ Some (outcome.Fetched number) → ⊥
 never-fetched None None number never is = cc
 never-fetched None (Some why) number never is = cc
 never-fetched (Some ending) down number never is = never number cc

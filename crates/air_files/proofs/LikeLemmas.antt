@@ -3,13 +3,12 @@
 -- Ends of links, transmissions and what else is theirs don't matter, and a session may be over.
 use Rattle.std.proofs.Common.{◌≡◌, ℕ, List, length, ap, sym, ◌∙◌, true}
 use Rattle.ftl0_job.specs.declared.work.Work.TheVariants as work
-use Rattle.ftl0_job.specs.declared.ending.Outcome.TheVariants as reached
 use Rattle.air_files.specs.DownloadDialogue as download
 use Rattle.air_files.specs.UploadDialogue.{Sending, asked, ended}
 use Rattle.air_files.specs.UploadDialogue.{refused, sends as sending, silent}
 use Rattle.air_files.proofs.Names.{Store, Work, Attempt, Party, ClientSide, ServerSide, Says, Serves, Fetching, IsFetchingFile, AnsweredFirst, IsSendingFile, Receiving, receives, unasked, HasNumber, IsGrantKept, Receives, IsSameParty, LooksLike, LooksLikeSession}
 use Rattle.air_files.proofs.ApartLemmas.{HasClientFacts, HasSideFacts}
-use Rattle.air_files.proofs.JobEarlier.{reached-any}
+use Rattle.air_files.proofs.JobEarlier.{fetched-any}
 use Rattle.air_files.proofs.ReceivesAs.{receives-as}
 
 -- ---- a client, an attempt and a session with what the facts look at of others
@@ -173,7 +172,6 @@ like-client party now a b facts = record {
   says = like-says a.client.asked a.client b.client facts.says;
   fetched = λ number is.
       facts.fetched number
-      (reached-any a.client.attempted.job.ending b.client.attempted.down a.client.attempted.down
-      (reached.Fetched number) is);
+      (fetched-any a.client.attempted.job.ending b.client.attempted.down a.client.attempted.down number is);
   asked_within = facts.asked_within;
 }

@@ -33,7 +33,6 @@ pub use Rattle.file_store.specs.OnDisk.{after_first}
 pub use Rattle.file_store.specs.Store.{Entry, Holding, Store, complete, empty_store, entry_of, new_entry, octets_at, octets_of, partial}
 pub use Rattle.ftl0_client.specs.Attempt.Attempted.{Attempted, outcome_by, outcome_of}
 pub use Rattle.ftl0_client.specs.Entries.{GoesBy, JobEntry, after_losing, lost, packets_said, passed, queued, said_in, took}
-pub use Rattle.ftl0_client.specs.declared.attempt.outcome.AttemptOutcome.TheVariants.{LinkDown, Reached}
 pub use Rattle.ftl0_job.specs.Directory.{Directory, empty_row, is_empty_code, longest_listing, new_directory}
 unfoldable pub use Rattle.ftl0_job.specs.Directory.{directory_row}
 pub use Rattle.ftl0_job.specs.Download.{Download, done_row, error_row, fetching_row, gots, last_got, login_row, new_download, unnoted, whole_gots, whole_row}

@@ -19,7 +19,6 @@ use Rattle.ftl0_job.specs.declared.work.Work.TheVariants as work
 use Rattle.ftl0_job.specs.Download.{Download}
 use Rattle.ftl0_job.specs.JobState.{IsCheckedIn}
 use Rattle.ftl0_client.specs.Attempt.Attempted.{outcome_of}
-use Rattle.ftl0_client.specs.declared.attempt.outcome.AttemptOutcome.TheVariants.{Reached}
 use Rattle.ftl0_client.specs.Entries as job
 use Rattle.air_attempt.specs.Attempt.{Attempt}
 use Rattle.air_files.specs.Dialogue.{IsDueNow, Says, Serves}
@@ -150,7 +149,7 @@ IsFetching store party a =
 -- a file that was fetched has no fault
 abbrev pub HasFetched : Party → Attempt → Type 0
 HasFetched party a =
-    (number : ℕ) → outcome_of a.client.attempted ≡ Some (Reached (reached.Fetched number))
+    (number : ℕ) → outcome_of a.client.attempted ≡ Some (reached.Fetched number)
     → fault_code (got party number) ≡ None
 
 -- No download was asked from behind what the client has got: nothing that was got is given up.

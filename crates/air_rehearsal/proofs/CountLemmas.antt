@@ -8,9 +8,10 @@
 --     came-same, came-at                 what one event adds where no client's attempt changes, or that of one place
 use Rattle.std.proofs.Common.{◌≡◌, ◌≢◌, ℕ, zero, suc, ◌+◌, ◌<◌, List, [], ◌∷◌, ◌++◌, length, map, Bool, true, false}
 use Rattle.std.proofs.Common.{◌&&◌, cond, Option, None, Some, refl, ap, subst, ◌∙◌, inl, inr, arith, length-append}
-use Rattle.ftl0_client.specs.declared.outcome.Outcome.TheVariants as outcome
+use Rattle.std.specs.Prelude.{is_none}
+use Rattle.ftl0_client.specs.Attempt.Attempted.{Attempted, outcome_of}
 use Rattle.air_attempt.specs.Party.{Party}
-use Rattle.air_rehearsal.proofs.Names.{slice_get, slice_set, AllZip, count_by, range_with_len, sum_by, zip, cases_lt, sum_by-map-range_with_len_more, sum_by-append, sum_by-cons, same_Some, Outcome, outcome_by, Event, Schedule, World, one_if, until, came_to, cuts_of, is_question, is_working, last_world, times, IsStationOf, Role, Station, acts, breaks_off, client_at, cut_worlds, looks_on, role_of, stations_of, the_server, waiting_after, will_be_cut, with_cut}
+use Rattle.air_rehearsal.proofs.Names.{slice_get, slice_set, AllZip, count_by, range_with_len, sum_by, zip, cases_lt, sum_by-map-range_with_len_more, sum_by-append, sum_by-cons, same_Some, Outcome, is_under_way, outcome_by, Event, Schedule, World, one_if, until, came_to, cuts_of, is_question, last_world, times, IsStationOf, Role, Station, acts, breaks_off, client_at, cut_worlds, looks_on, role_of, stations_of, the_server, waiting_after, will_be_cut, with_cut}
 
 -- ---- counts of lists
 
@@ -32,7 +33,7 @@ questions-more events event = count-more is_question events event
 pub events-more : (events : List Event) (event : Event) → length (events ++ event ∷ []) ≡ length events + 1
 events-more events event = length-append events (event ∷ [])
 
-pub times-more : (is_such : Outcome → Bool) (world : World) (worlds : List World) (next : World)
+pub times-more : (is_such : Option Outcome → Bool) (world : World) (worlds : List World) (next : World)
     → times is_such world (worlds ++ next ∷ [])
     ≡ times is_such world worlds + count_by (came_to is_such) (zip (last_world world worlds).parties next.parties)
 times-more is_such world [] next = omega arith
@@ -193,19 +194,23 @@ abbrev pub SameAttempt : Party → Party → Type 0
 SameAttempt party now = now.client.attempt ≡ party.client.attempt
 
 -- what is under way has come to nothing
-not-both : (is_such : Outcome → Bool) → is_such outcome.Working ≡ false → (of : Outcome)
-    → (is_working of && is_such of) ≡ false
-not-both is_such not outcome.Working = not
-not-both is_such not of = refl
+not-both : (is_such : Option Outcome → Bool) → is_such None ≡ false → (attempt : Option Attempted)
+    → (is_under_way attempt && is_such (outcome_by attempt)) ≡ false
+not-both is_such not None = refl
+not-both is_such not (Some a) = by (outcome_of a)
+  where
+    by : (of : Option Outcome) → (is_none of && is_such of) ≡ false
+    by None = not
+    by (Some reached) = refl
 
-came-not : (is_such : Outcome → Bool) → is_such outcome.Working ≡ false → (party now : Party)
+came-not : (is_such : Option Outcome → Bool) → is_such None ≡ false → (party now : Party)
     → SameAttempt party now → came_to is_such (party, now) ≡ false
 came-not is_such not party now same =
-    ap (λ attempt. is_working (outcome_by party.client.attempt) && is_such (outcome_by attempt)) same
-    ∙ not-both is_such not (outcome_by party.client.attempt)
+    ap (λ attempt. is_under_way party.client.attempt && is_such (outcome_by attempt)) same
+    ∙ not-both is_such not party.client.attempt
 
 -- one count more, by the client at the first place
-counted : (is_such : Outcome → Bool) (party it : Party) (parties now : List Party)
+counted : (is_such : Option Outcome → Bool) (party it : Party) (parties now : List Party)
     → count_by (came_to is_such) (zip (party ∷ parties) (it ∷ now))
     ≡ one_if (came_to is_such (party, it)) + count_by (came_to is_such) (zip parties now)
 counted is_such party it parties now =
@@ -213,7 +218,7 @@ counted is_such party it parties now =
     ∙ ap (λ n. n + count_by (came_to is_such) (zip parties now)) (one-cond (came_to is_such (party, it)))
 
 -- Where no client's attempt changes nothing that was asked comes to an outcome.
-pub came-same : (is_such : Outcome → Bool) → is_such outcome.Working ≡ false → (parties now : List Party)
+pub came-same : (is_such : Option Outcome → Bool) → is_such None ≡ false → (parties now : List Party)
     → AllZip SameAttempt parties now → count_by (came_to is_such) (zip parties now) ≡ 0
 came-same is_such not [] [] all = refl
 came-same is_such not [] (it ∷ now) all = absurd all
@@ -232,7 +237,7 @@ same-each [] = tt
 same-each (party ∷ parties) = (refl, same-each parties)
 
 -- Where the client at one place is another one, it comes to an outcome where that one's does.
-pub came-at : (is_such : Outcome → Bool) → is_such outcome.Working ≡ false → (parties : List Party) (c : ℕ)
+pub came-at : (is_such : Option Outcome → Bool) → is_such None ≡ false → (parties : List Party) (c : ℕ)
     (party now : Party) → slice_get parties c ≡ Some party
     → count_by (came_to is_such) (zip parties (slice_set parties c now)) ≡ one_if (came_to is_such (party, now))
 came-at is_such not [] c party now at = absurd (let no : ⊥ = cc at in no)

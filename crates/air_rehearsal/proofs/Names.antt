@@ -31,7 +31,7 @@ pub use Rattle.air_rehearsal.specs.Played.{BenchPlayed, EndsWhole, Opens, Played
 pub use Rattle.air_rehearsal.specs.Playing.{Bench, GoesOn, IsBench, IsPlaying, IsStage, PlaysEvent, bench_of, came_in, client_count, counts_with, cuts_in, waiting_in}
 pub use Rattle.air_rehearsal.specs.Ready.{AreReady, IsReadyParty, IsReadyServer, IsTheirs, IsUp, KeepParties, KeepsAllButLanes, KeepsClients, KeepsParty}
 pub use Rattle.air_rehearsal.specs.Rehearsed.{EndsHalf, HalfStep, IsUnlawful, KeepsPromise, MayGoOn, PromisedInImages, PromisedSince, Rehearsed, StandsAmid, StopsAtOpening, TellAllCuts, WantsMemory, lines_before, until}
-pub use Rattle.air_rehearsal.specs.Report.{ClientTask, CountOf, IsAcked, IsAckedAndKept, IsReport, Report, all_tasks, came_to, cuts_of, is_fetch, is_question, is_refusal, is_working, last_world, tasks_of, times}
+pub use Rattle.air_rehearsal.specs.Report.{ClientTask, CountOf, IsAcked, IsAckedAndKept, IsReport, Report, all_tasks, came_to, cuts_of, is_fetch, is_question, is_refusal, last_world, tasks_of, times}
 pub use Rattle.air_rehearsal.specs.Seats.{BrokeOff, ChangesAt, Clients, ComesAlways, ComesTo, CountsCut, CountsEvent, GoesApart, IsSeated, MayTake, TookPart, clients_of, with_server}
 pub use Rattle.air_rehearsal.specs.ServerCalls.{AreTimed, ArmsFor, IsCutSo, IsStarted, IsTaken, IsTimed, RepliesAt, SendsByTimer, SendsReplies}
 pub use Rattle.air_rehearsal.specs.ServerEvents.{AwaitsServer, CanCount, CountsOn, ServesEvent, Serving, TellsFailure, server_stage, serving, waiting_of}
@@ -111,8 +111,8 @@ pub use Rattle.ftl0_client.specs.Calls.{Becomes, HandsOut, HearsBy, SameAttempt,
 pub use Rattle.ftl0_client.specs.Client.{Client, ClientSends, IsSilent, Refused, asking, asks, client_hearing, client_next, new_client, sends_by, sends_of_attempt, sends_of_link, ticking_by, with_attempt}
 pub use Rattle.ftl0_client.specs.ClientState.{ClientState, GoWithAttempt, IsAttemptOf, IsClient, attempt_closed, attempt_pending, client_closed, client_most}
 pub use Rattle.ftl0_client.specs.ClientStep.{ClientStep}
-pub use Rattle.ftl0_client.specs.Outcomes.{outcome_by}
-pub use Rattle.ftl0_client.specs.declared.outcome.Outcome.{Outcome}
+pub use Rattle.ftl0_client.specs.Outcome.{Outcome}
+pub use Rattle.ftl0_client.specs.Outcomes.{is_under_way, outcome_by}
 pub use Rattle.ftl0_job.specs.Download.{new_download}
 pub use Rattle.ftl0_job.specs.JobState.{NotesGoWith}
 pub use Rattle.ftl0_job.specs.Table.{JobState, new_job}

@@ -115,8 +115,8 @@ module _ {B : Type 0} (g : Ghosts B) (cuts : Cuts B) (law : SoundLaw)
       })
       (λ numbers tells.
       tells_with old.stations (break_client (suc c)) world next new.stations.report numbers 0 0 0 0 refl
-      (broken_came is_refusal refl refl world next c party at refl)
-      (broken_came is_fetch refl refl world next c party at refl) (break_cuts old.stations (suc c) world)
+      (broken_came is_refusal refl world next c party at refl)
+      (broken_came is_fetch refl world next c party at refl) (break_cuts old.stations (suc c) world)
       (tells_same new.stations.report numbers (subst (λ (r : _). Tells r numbers) (sym report) tells)))
 
   pub breaks_client :

@@ -2,10 +2,9 @@
 use Rattle.std.specs.Prelude.{◌≡◌, ◌≢◌, ◌+◌, ◌==◌, ◌∷◌, if◌then◌else◌}
 use Rattle.std.specs.Prelude.{◌&&◌}
 use Rattle.std.proofs.Common.{sym, ap, ◌∙◌, subst, arith}
-use Rattle.ftl0_client.specs.declared.outcome.Outcome.TheVariants as outcome
 use Rattle.air_attempt.specs.Party.{Party}
 use Rattle.air_rehearsal.specs.declared.report.Report.{Report as StoredReport}
-use Rattle.air_rehearsal.proofs.Names.{ℕ, zero, suc, List, [], slice_get, slice_set, map, Bool, false, true, Some, refl, AllZip, same_Some, FrameValue, NodeEvent, hears, ticks, Outcome, outcome_by, is_same_call, sessions_over, ServerDid, ServerDoes, ServerEvent, broken, ServerTakes, Event, break_client, cut_client, cut_server, tick_server, to_server, ask_download, ask_list, ask_resume, ask_upload, tick_client, to_client, parties_after, party_heard, party_ticked, PartyAt, World, Tells, one_if, told, came_in, counts_with, cuts_in, Report, is_fetch, is_question, is_refusal, is_working, Role, Station, acts, breaks_off, client_at, looks_on, role_of, the_server, will_be_cut, Stations}
+use Rattle.air_rehearsal.proofs.Names.{ℕ, zero, suc, List, [], slice_get, slice_set, map, Bool, false, true, Option, None, Some, refl, AllZip, same_Some, FrameValue, NodeEvent, hears, ticks, Outcome, is_under_way, is_same_call, sessions_over, ServerDid, ServerDoes, ServerEvent, broken, ServerTakes, Event, break_client, cut_client, cut_server, tick_server, to_server, ask_download, ask_list, ask_resume, ask_upload, tick_client, to_client, parties_after, party_heard, party_ticked, PartyAt, World, Tells, one_if, told, came_in, counts_with, cuts_in, Report, is_fetch, is_question, is_refusal, Role, Station, acts, breaks_off, client_at, looks_on, role_of, the_server, will_be_cut, Stations}
 use Rattle.air_rehearsal.proofs.CountLemmas.{SameAttempt, came-at, came-same, same-each}
 use Rattle.air_rehearsal.proofs.CutCounts.{nobody_cuts}
 
@@ -138,7 +137,7 @@ does_same true world coming delivered next does all =
     (same_then sessions_over (λ party. refl) world.parties delivered.parties all)
 
 -- In an event of the server nothing that was asked comes to an outcome.
-pub server_came : (is_such : Outcome → Bool) → is_such outcome.Working ≡ false → (world : World) (event : Event)
+pub server_came : (is_such : Option Outcome → Bool) → is_such None ≡ false → (world : World) (event : Event)
     (next : World) → ServerEvent world event next → came_in is_such world next ≡ 0
 server_came is_such not world event next happens =
     came-same is_such not world.parties next.parties
@@ -147,17 +146,17 @@ server_came is_such not world event next happens =
 
 -- ---- a break, and cuts that are to come
 
--- a client that starts again is idle
-pub broken_came : (is_such : Outcome → Bool) → is_such outcome.Working ≡ false → is_such outcome.Idle ≡ false
-    → (world next : World) (c : ℕ) (party : Party) → PartyAt world c party
+-- of a client that starts again nothing was asked
+pub broken_came : (is_such : Option Outcome → Bool) → is_such None ≡ false → (world next : World) (c : ℕ)
+    (party : Party) → PartyAt world c party
     → next.parties ≡ slice_set world.parties c (broken party) → came_in is_such world next ≡ 0
-broken_came is_such not idle world next c party at is =
+broken_came is_such not world next c party at is =
     ap (λ (parties : List Party). came_in is_such world (record next { parties = parties })) is
     ∙ came-at is_such not world.parties c party (broken party) at
-    ∙ ap one_if (both_false (is_working (outcome_by party.client.attempt)) (is_such outcome.Idle) idle)
+    ∙ ap one_if (both_false (is_under_way party.client.attempt) (is_such None) not)
 
 -- the client at a place is another one of the same attempt
-pub same_came : (is_such : Outcome → Bool) → is_such outcome.Working ≡ false → (world next : World) (c : ℕ)
+pub same_came : (is_such : Option Outcome → Bool) → is_such None ≡ false → (world next : World) (c : ℕ)
     (party now : Party) → PartyAt world c party → SameAttempt party now
     → next.parties ≡ slice_set world.parties c now → came_in is_such world next ≡ 0
 same_came is_such not world next c party now at same is =
@@ -166,7 +165,7 @@ same_came is_such not world next c party now at same is =
     (same_set world.parties c party now at same)
 
 -- no client changes
-pub none_came : (is_such : Outcome → Bool) → is_such outcome.Working ≡ false → (world next : World)
+pub none_came : (is_such : Option Outcome → Bool) → is_such None ≡ false → (world next : World)
     → next.parties ≡ world.parties → came_in is_such world next ≡ 0
 none_came is_such not world next is =
     ap (λ (parties : List Party). came_in is_such world (record next { parties = parties })) is

@@ -1,11 +1,10 @@
 -- What a result holds that is handed on, and which client has a number.
-use Rattle.std.specs.Prelude.{◌≡◌, ◌≢◌, ◌↔◌, ◌+◌, ◌<◌, ◌∷◌}
+use Rattle.std.specs.Prelude.{◌≡◌, ◌↔◌, ◌+◌, ◌<◌, ◌∷◌}
 use Rattle.std.specs.Prelude.{◌&&◌}
 use Rattle.std.proofs.Common.{ap, sym, ◌∙◌, subst, arith}
-use Rattle.ftl0_client.specs.declared.outcome.Outcome.TheVariants as outcome
 use Rattle.air_rehearsal.specs.Seats.{asks}
 use Rattle.air_rehearsal.specs.declared.report.Report.{Report as StoredReport}
-use Rattle.air_rehearsal.proofs.Names.{ℕ, zero, suc, List, [], length, slice_get, slice_set, Result, Ok, Err, IfOk, OnOk, Some, Bool, true, false, IsTrue, slice_index_or, is_some, refl, same_Some, Cuts, Ghosts, EachImage, NotesState, StandsFor, IsClient, Client, outcome_by, Outcome, ClientPart, ClientTakes, IsAllowed, Event, Tells, TellsThen, asked_more, cut_more, one_if, outcome_more, told, place_numbered, Report, is_fetch, is_refusal, is_working, Clients, MayTake, TookPart, DoesPart, IsPart, IsSeat, Seat, TakesPart, IsSteady, Part, Party as StoredParty}
+use Rattle.air_rehearsal.proofs.Names.{ℕ, zero, suc, List, [], length, slice_get, slice_set, Result, Ok, Err, IfOk, OnOk, Option, Some, Bool, true, false, IsTrue, slice_index_or, is_some, refl, same_Some, Cuts, Ghosts, EachImage, NotesState, StandsFor, IsClient, Client, is_under_way, outcome_by, Outcome, ClientPart, ClientTakes, IsAllowed, Event, Tells, TellsThen, asked_more, cut_more, one_if, outcome_more, told, place_numbered, Report, is_fetch, is_refusal, Clients, MayTake, TookPart, DoesPart, IsPart, IsSeat, Seat, TakesPart, IsSteady, Part, Party as StoredParty}
 
 -- what has P where it is there has Q then, where that follows
 pub if_ok : {T E : Type 0} (r : Result T E) (P Q : T → Type 0) → IfOk r P → ((x : T) → P x → Q x) → IfOk r Q
@@ -43,36 +42,31 @@ images_there {D} g disks c then other read notes within is images =
 
 -- ---- what is counted of a client that takes part
 
-pub is_under_way : (of : Outcome) → (of ≢ outcome.Working → ⊥) → is_working of ≡ true
-is_under_way outcome.Working busy = refl
-is_under_way of busy = absurd (busy (λ e. absurd cc))
-
-pub isnt_under_way : (of : Outcome) → of ≢ outcome.Working → is_working of ≡ false
-isnt_under_way outcome.Working free = absurd (free refl)
-isnt_under_way of free = refl
+pub not_false : (is : Bool) → (is ≡ false → ⊥) → is ≡ true
+not_false true not = refl
+not_false false not = absurd (not refl)
 
 -- what comes of what was under way is counted
-abbrev pub CountsEnd : Outcome → Outcome → StoredReport → StoredReport → Type 0
+abbrev pub CountsEnd : Bool → Option Outcome → StoredReport → StoredReport → Type 0
 CountsEnd before now old new =
     (numbers : Report) → Tells old numbers
     → Tells new
     (record numbers {
-      refused = numbers.refused + one_if (is_working before && is_refusal now);
-      fetched = numbers.fetched + one_if (is_working before && is_fetch now);
+      refused = numbers.refused + one_if (before && is_refusal now);
+      fetched = numbers.fetched + one_if (before && is_fetch now);
     })
 
 -- of a client that was free nothing is
-pub counts_free : (before now : Outcome) (report : StoredReport) → before ≢ outcome.Working
+pub counts_free : (before : Bool) (now : Option Outcome) (report : StoredReport) → before ≡ false
     → CountsEnd before now report report
 counts_free before now report free numbers tells =
-    let none : is_working before ≡ false = isnt_under_way before free in
     record {
       events = tells.events;
       asked = tells.asked;
       acked = tells.acked;
       kept = tells.kept;
-      refused = tells.refused ∙ ap told (same numbers.refused (is_refusal now) (is_working before) none);
-      fetched = tells.fetched ∙ ap told (same numbers.fetched (is_fetch now) (is_working before) none);
+      refused = tells.refused ∙ ap told (same numbers.refused (is_refusal now) before free);
+      fetched = tells.fetched ∙ ap told (same numbers.fetched (is_fetch now) before free);
       cuts = tells.cuts;
     }
   where
@@ -81,10 +75,10 @@ counts_free before now report free numbers tells =
     same n such false is = omega arith
 
 -- of one that wasn't it is
-pub counts_busy : (before now : Outcome) (old new : StoredReport) → (before ≢ outcome.Working → ⊥)
+pub counts_busy : (before : Bool) (now : Option Outcome) (old new : StoredReport) → (before ≡ false → ⊥)
     → TellsThen (outcome_more now) old new → CountsEnd before now old new
 counts_busy before now old new busy counts numbers tells =
-    let is : is_working before ≡ true = is_under_way before busy in
+    let is : before ≡ true = not_false before busy in
     let then = counts numbers tells in
     record {
       events = then.events;
@@ -110,7 +104,7 @@ pub took_part :
     → TellsThen (asked_more (asks part)) old.stations.report asked_report
     → TellsThen (cut_more (is_some self.cut)) asked_report cut_report
     → ((seat : Seat) (next : Client) → IsSeat self seat → IsClient now.client next
-    → CountsEnd (outcome_by seat.party.client.attempt) (outcome_by next.attempt) cut_report new.stations.report)
+    → CountsEnd (is_under_way seat.party.client.attempt) (outcome_by next.attempt) cut_report new.stations.report)
     → (whole : ClientPart) (may : MayTake g cuts c old part whole) → TookPart g cuts c part whole old new may
 took_part {B} g cuts old new c self now was then part asked_report cut_report self_at was_at parties disks stations takes
     images asked cut ends whole may =

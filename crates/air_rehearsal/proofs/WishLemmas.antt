@@ -1,12 +1,11 @@
 -- What is drawn to be asked of the client of a number, by what its notes say.
 use Rattle.std.specs.Prelude.{◌≡◌, ◌≢◌, ◌%◌, ◌==◌}
 use Rattle.std.proofs.Common.{sym, ap, ◌∙◌}
-use Rattle.ftl0_client.specs.declared.outcome.Outcome.TheVariants as outcome
 use Rattle.air_schedule.specs.declared.event.Event.{Event as StoredEvent}
 use Rattle.air_attempt.specs.Party.{Party}
-use Rattle.air_rehearsal.proofs.Names.{ℕ, min, true, false, Option, None, Some, is_some, refl, option_map, option_map_or, cond-false, cond-true, eq-eqb, ne_eqb, Lists, outcome_by, event_value, last_unfinished, ask_download, ask_resume, ask_upload, Sound, World, last_acked, IsDraw, Draw, next_number, next_state, none_drawn, question, state_after, wish, wish_by, wish_of, numbered, IsLastGoing, is_working, PlaysStations, Party as StoredParty, Stations}
+use Rattle.air_rehearsal.proofs.Names.{ℕ, min, true, false, Option, None, Some, is_some, refl, option_map, option_map_or, cond-false, cond-true, eq-eqb, ne_eqb, Lists, is_under_way, event_value, last_unfinished, ask_download, ask_resume, ask_upload, Sound, World, last_acked, IsDraw, Draw, next_number, next_state, none_drawn, question, state_after, wish, wish_by, wish_of, numbered, IsLastGoing, PlaysStations, Party as StoredParty, Stations}
 use Rattle.air_rehearsal.proofs.AllowedLemmas.{Has}
-use Rattle.air_rehearsal.proofs.PlayParts.{is_under_way, isnt_under_way}
+use Rattle.air_rehearsal.proofs.PlayParts.{not_false}
 
 -- what is asked where there is no unfinished upload
 pub downloads :
@@ -47,23 +46,22 @@ module _ (self : Stations) (world : World) (sound : Sound world) (plays : PlaysS
       (ap (λ (n : ℕ). numbered n world.parties) it.number_is ∙ it.there)
 
   -- what was asked is under way
-  wish-busy : (outcome_by it.party.client.attempt ≢ outcome.Working → ⊥) → wish state number world ≡ none_drawn
+  wish-busy : (is_under_way it.party.client.attempt ≡ false → ⊥) → wish state number world ≡ none_drawn
   wish-busy busy =
       wish-is
-      ∙ cond-true (is_working (outcome_by it.party.client.attempt)) none_drawn
+      ∙ cond-true (is_under_way it.party.client.attempt) none_drawn
       (wish_by state number (last_unfinished it.party.client.lists) (last_acked it.party.client.lists))
-      (is_under_way (outcome_by it.party.client.attempt) busy)
+      (not_false (is_under_way it.party.client.attempt) busy)
 
   -- it isn't, and there is an unfinished upload, or none
   wish-by :
-      outcome_by it.party.client.attempt ≢ outcome.Working → (going acked : Option ℕ)
+      is_under_way it.party.client.attempt ≡ false → (going acked : Option ℕ)
       → last_unfinished it.party.client.lists ≡ going → last_acked it.party.client.lists ≡ acked
       → wish state number world ≡ wish_by state number going acked
   wish-by free going acked going_is acked_is =
       wish-is
-      ∙ cond-false (is_working (outcome_by it.party.client.attempt)) none_drawn
-      (wish_by state number (last_unfinished it.party.client.lists) (last_acked it.party.client.lists))
-      (isnt_under_way (outcome_by it.party.client.attempt) free)
+      ∙ cond-false (is_under_way it.party.client.attempt) none_drawn
+      (wish_by state number (last_unfinished it.party.client.lists) (last_acked it.party.client.lists)) free
       ∙ ap (λ (o : Option ℕ). wish_by state number o (last_acked it.party.client.lists)) going_is
       ∙ ap (λ (o : Option ℕ). wish_by state number going o) acked_is
 
@@ -79,10 +77,10 @@ module _ (self : Stations) (world : World) (sound : Sound world) (plays : PlaysS
       }
 
   pub draws-none :
-      (outcome_by it.party.client.attempt ≢ outcome.Working → ⊥) → IsDraw (wish state number world) None state state
+      (is_under_way it.party.client.attempt ≡ false → ⊥) → IsDraw (wish state number world) None state state
   draws-none busy = drawn-so none_drawn None state (wish-busy busy) refl refl
 
-  module _ (free : outcome_by it.party.client.attempt ≢ outcome.Working) (event : StoredEvent) where
+  module _ (free : is_under_way it.party.client.attempt ≡ false) (event : StoredEvent) where
     pub draws-resume :
         (task : ℕ) → last_unfinished it.party.client.lists ≡ Some task → event_value event ≡ ask_resume number
         → IsDraw (wish state number world) (Some event) state state

@@ -1,9 +1,9 @@
 -- How the code's report tells the numbers that are counted: each stands still at its last number, 2 ^ 64 - 1.
-use Rattle.std.specs.Prelude.{◌≡◌, ℕ, ◌+◌, min, List, ◌++◌, codes, decimal, Bool, true, false}
+use Rattle.std.specs.Prelude.{◌≡◌, ℕ, ◌+◌, min, List, ◌++◌, codes, decimal, Bool, true, false, Option}
 use Rattle.disk_model.specs.declared.disk.Disk.{Ghosts}
 use Rattle.air_world.specs.World.{World}
 use Rattle.air_rehearsal.specs.Chain.{StartsAgain}
-use Rattle.ftl0_client.specs.declared.outcome.Outcome.{Outcome}
+use Rattle.ftl0_client.specs.Outcome.{Outcome}
 use Rattle.air_rehearsal.specs.Report.{CountOf, IsAcked, Report, all_tasks, is_fetch, is_refusal}
 use Rattle.air_rehearsal.specs.Standing.{StandsNow}
 use Rattle.air_rehearsal.specs.Stations.{the_server}
@@ -55,8 +55,8 @@ asked_more is_asked counts = record counts { asked = counts.asked + one_if is_as
 abbrev pub cut_more : Bool → Report → Report
 cut_more is_cut counts = record counts { cuts = counts.cuts + one_if is_cut }
 
--- what was asked came to this
-abbrev pub outcome_more : Outcome → Report → Report
+-- what was asked came to this, or is under way
+abbrev pub outcome_more : Option Outcome → Report → Report
 outcome_more outcome counts =
     record counts {
       refused = counts.refused + one_if (is_refusal outcome);

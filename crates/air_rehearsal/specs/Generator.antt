@@ -8,7 +8,7 @@ use Rattle.disk_model.specs.declared.disk.Disk.{Ghosts}
 use Rattle.ax25_link.specs.Air.{Transmission}
 use Rattle.ax25_link.specs.declared.state.LinkState.TheVariants.{Down}
 use Rattle.ftl0_client.specs.Attempt.Attempted.{Attempted}
-use Rattle.ftl0_client.specs.Outcomes.{outcome_by}
+use Rattle.ftl0_client.specs.Outcomes.{is_under_way}
 use Rattle.air_attempt.specs.Attempt.{Attempt}
 use Rattle.air_attempt.specs.Party.{Party, newest}
 use Rattle.air_world.specs.Lawful.{IsAllowed, last_unfinished}
@@ -18,7 +18,6 @@ use Rattle.air_world.specs.World.{World, first_world}
 use Rattle.air_rehearsal.specs.Drawn.{IsDrawnFor, last_acked, rounds}
 use Rattle.air_rehearsal.specs.Numbers.{numbered}
 use Rattle.air_rehearsal.specs.Rehearsed.{Rehearsed}
-use Rattle.air_rehearsal.specs.Report.{is_working}
 use Rattle.air_rehearsal.specs.declared.generator.Fate.{Fate}
 use Rattle.air_rehearsal.specs.declared.generator.Fate.TheVariants.{Late, Lost, Once, Twice}
 use Rattle.air_rehearsal.specs.declared.generator.Looked.{Looked}
@@ -217,7 +216,7 @@ wish_by state number None acked =
 -- nothing where what was asked of the client is under way
 abbrev pub wish_of : ℕ → ℕ → Party → Draw
 wish_of state number party =
-    if is_working (outcome_by party.client.attempt) then none_drawn
+    if is_under_way party.client.attempt then none_drawn
     else wish_by state number (last_unfinished party.client.lists) (last_acked party.client.lists)
 
 -- what the client of this number is asked for, if anything

@@ -6,7 +6,7 @@ use Rattle.std.specs.Option.{option_and_then}
 use Rattle.disk_model.specs.Cuts.{Cuts}
 use Rattle.disk_model.specs.declared.disk.Disk.{Ghosts}
 use Rattle.ftl0_server.specs.ServerState.{ServerState}
-use Rattle.ftl0_client.specs.declared.outcome.Outcome.{Outcome}
+use Rattle.ftl0_client.specs.Outcome.{Outcome}
 use Rattle.air_files.specs.SoundStore.{NoneGone}
 use Rattle.air_world.specs.Cuts.{WorldStep}
 use Rattle.air_world.specs.Schedule.{Event}
@@ -87,7 +87,7 @@ cuts_in stations event world =
     (stations_in stations)
 
 -- how often what was asked came to such an outcome in this step
-abbrev pub came_in : (Outcome → Bool) → World → World → ℕ
+abbrev pub came_in : (Option Outcome → Bool) → World → World → ℕ
 came_in is_such old new = count_by (came_to is_such) (zip old.parties new.parties)
 
 -- the numbers of the report once this event came, but for that of the events

@@ -1,10 +1,11 @@
 -- What a rehearsal counts, each number by itself.
-use Rattle.std.specs.Prelude.{◌≡◌, ◌⊎◌, ℕ, suc, ◌+◌, List, [], ◌∷◌, length, map, Bool, ◌&&◌, true, false, None}
+use Rattle.std.specs.Prelude.{◌≡◌, ◌⊎◌, ℕ, suc, ◌+◌, List, [], ◌∷◌, length, map, Bool, ◌&&◌, true, false}
+use Rattle.std.specs.Prelude.{Option, None, Some}
 use Rattle.std.specs.List.{count_by, flat_map, range_with_len, sum_by, zip}
 use Rattle.client_notes.specs.Notes.{task_count}
-use Rattle.ftl0_client.specs.declared.outcome.Outcome.{Outcome}
-use Rattle.ftl0_client.specs.declared.outcome.Outcome.TheVariants as outcome
-use Rattle.ftl0_client.specs.Outcomes.{outcome_by}
+use Rattle.ftl0_client.specs.Outcome.{Outcome}
+use Rattle.ftl0_client.specs.Outcome.TheVariants as outcome
+use Rattle.ftl0_client.specs.Outcomes.{is_under_way, outcome_by}
 use Rattle.air_attempt.specs.Party.{Party}
 use Rattle.air_files.specs.Kept.{HoldsAck, IsTaskKept}
 use Rattle.air_world.specs.Schedule.{Event, Schedule, ask_download, ask_list, ask_resume, ask_upload}
@@ -65,30 +66,24 @@ IsAckedAndKept world it =
     (number : ℕ) × HoldsAck it.party it.task number
     × IsTaskKept world.files world.server.store it.party it.task number
 
--- what was asked is under way
-abbrev pub is_working : Outcome → Bool
-is_working outcome.Working = true
-is_working it = false
-
--- it was refused, or the file that came has a fault
-abbrev pub is_refusal : Outcome → Bool
-is_refusal (outcome.Refused code) = true
-is_refusal (outcome.BadFile code) = true
+-- what was asked was refused, or the file that came has a fault
+abbrev pub is_refusal : Option Outcome → Bool
+is_refusal (Some (outcome.Refused code)) = true
+is_refusal (Some (outcome.BadFile code)) = true
 is_refusal it = false
 
 -- the file came whole
-abbrev pub is_fetch : Outcome → Bool
-is_fetch (outcome.Fetched number) = true
+abbrev pub is_fetch : Option Outcome → Bool
+is_fetch (Some (outcome.Fetched number)) = true
 is_fetch it = false
 
 -- What was asked of the client was under way, and came to such an outcome. Where an event is cut the client starts
 -- again without one.
-abbrev pub came_to : (Outcome → Bool) → Party × Party → Bool
-came_to is_such both =
-    is_working (outcome_by both.0.client.attempt) && is_such (outcome_by both.1.client.attempt)
+abbrev pub came_to : (Option Outcome → Bool) → Party × Party → Bool
+came_to is_such both = is_under_way both.0.client.attempt && is_such (outcome_by both.1.client.attempt)
 
 -- how often it did in these events, by the world before them and those after them
-abbrev pub times : (Outcome → Bool) → World → List World → ℕ
+abbrev pub times : (Option Outcome → Bool) → World → List World → ℕ
 times is_such world [] = 0
 times is_such world (next ∷ later) =
     count_by (came_to is_such) (zip world.parties next.parties) + times is_such next later

@@ -5,7 +5,7 @@ use Rattle.disk_model.specs.Cuts.{Cuts}
 use Rattle.disk_model.specs.declared.disk.Disk.{Ghosts}
 use Rattle.disk_model.specs.Runs.{EachImage}
 use Rattle.client_notes.specs.State.{StandsFor}
-use Rattle.ftl0_client.specs.Outcomes.{outcome_by}
+use Rattle.ftl0_client.specs.Outcomes.{is_under_way, outcome_by}
 use Rattle.ftl0_server.specs.ServerState.{ServerState}
 use Rattle.air_attempt.specs.Party.{Party}
 use Rattle.air_world.specs.Events.{ClientPart, ClientTakes}
@@ -16,7 +16,7 @@ use Rattle.air_world.specs.World.{PartyAt, World}
 use Rattle.air_rehearsal.specs.Counting.{Tells, one_if}
 use Rattle.air_rehearsal.specs.PartyCalls.{BreaksOff}
 use Rattle.air_rehearsal.specs.Playing.{Bench, GoesOn, IsBench, bench_of}
-use Rattle.air_rehearsal.specs.Report.{Report, is_fetch, is_question, is_refusal, is_working}
+use Rattle.air_rehearsal.specs.Report.{Report, is_fetch, is_question, is_refusal}
 use Rattle.air_rehearsal.specs.TakingPart.{IsPart, IsSeat, Seat, TakesPart}
 use Rattle.air_rehearsal.specs.Worlds.{IsSteady, PlaysStations}
 use Rattle.air_rehearsal.specs.declared.part.Part.{Part}
@@ -95,11 +95,9 @@ counts_taking part stored old new counts =
       asked = counts.asked + one_if (asks part);
       refused =
           counts.refused
-          + one_if
-          (is_working (outcome_by old.client.attempt) && is_refusal (outcome_by new.client.attempt));
+          + one_if (is_under_way old.client.attempt && is_refusal (outcome_by new.client.attempt));
       fetched =
-          counts.fetched
-          + one_if (is_working (outcome_by old.client.attempt) && is_fetch (outcome_by new.client.attempt));
+          counts.fetched + one_if (is_under_way old.client.attempt && is_fetch (outcome_by new.client.attempt));
       cuts = counts.cuts + one_if (is_some stored.cut);
     }
 

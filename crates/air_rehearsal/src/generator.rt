@@ -369,7 +369,10 @@ impl Driver {
         }
         let drawn = self.draws.next();
         match party.last_acked() {
-            Some(number) if drawn % 4 == 0 => Some(Event::AskDownload { client, number }),
+            Some(number) if drawn % 4 == 0 => Some(Event::AskDownload {
+                client,
+                number: number.get(),
+            }),
             _ => Some(Event::AskUpload {
                 client,
                 octets: (drawn % 40_001).min(40_000) as u16,

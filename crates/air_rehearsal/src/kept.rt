@@ -25,14 +25,14 @@ use crate::party::Party;
 use crate::report::Report;
 use crate::stations::{LIMITS, Stations};
 use air_world::laws::parts_law;
-use client_notes::Noted;
+use client_notes::{Noted, TaskNumber};
 use disk_model::Disk;
 use file_store::laws::{state_law, told_law};
 use file_store::{FileStore, Info};
 use pfh_items::UPLOAD_TIME;
 use pfh_reader::check;
 use pfh_writer::stamp;
-use px_base::{Call, FileBytes, OutOfMemory, le32};
+use px_base::{Call, FileBytes, FileNumber, Moment, OutOfMemory, le32};
 use std::alloc::Global;
 
 impl Stations {
@@ -87,7 +87,7 @@ impl Stations {
             → CountsAcked (tasks_of seat.party) report.old report.new) }
     {
         for before in 0..party.client.notes().tasks() {
-            self.count_task(store, disk, report, party, before + 1)?;
+            self.count_task(store, disk, report, party, TaskNumber::new(before + 1))?;
         }
         Ok(())
     }
@@ -99,7 +99,7 @@ impl Stations {
         disk: &mut D,
         report: &mut Report,
         party: &Party,
-        task: u32,
+        task: TaskNumber,
     ) -> Result<(), OutOfMemory>
         requires ready { IsReady D.Disk store.old disk.old }
         requires some { 1 ≤ task }
@@ -125,8 +125,8 @@ impl Stations {
         store: &mut FileStore,
         disk: &mut D,
         party: &Party,
-        task: u32,
-        number: u32,
+        task: TaskNumber,
+        number: FileNumber,
     ) -> Result<bool, OutOfMemory>
         requires ready { IsReady D.Disk store.old disk.old }
         requires some { 1 ≤ task }
@@ -145,12 +145,17 @@ impl Stations {
     }
 
     /// The file of the task of this number of a client. Takes memory.
-    pub(crate) fn file_at(&self, party: &Party, task: u32) -> Result<Option<FileBytes>, OutOfMemory>
+    pub(crate) fn file_at(
+        &self,
+        party: &Party,
+        task: TaskNumber,
+    ) -> Result<Option<FileBytes>, OutOfMemory>
         requires { 1 ≤ task }
         ensures { IfOk result (λ file. (world : World) (played : PlayedParty) → PlaysStations self.now world
             → PlaysParty party.now played → file_of_task world.files played task ≡ file) }
     {
-        let Some(upload) = party.uploads.get(task as usize - 1) else {
+        let number = task.get();
+        let Some(upload) = party.uploads.get(number as usize - 1) else {
             return Ok(None);
         };
         match self.uploads.get(*upload as usize) {
@@ -166,7 +171,7 @@ fn octets_of<D: Disk>(
     alloc: Global,
     store: &mut FileStore,
     disk: &mut D,
-    number: u32,
+    number: FileNumber,
     caller: Call,
 ) -> Result<Vec<u8>, OutOfMemory>
     requires { IsReady D.Disk store.old disk.old }
@@ -189,7 +194,7 @@ fn read_all<D: Disk>(
     alloc: Global,
     store: &mut FileStore,
     disk: &mut D,
-    number: u32,
+    number: FileNumber,
     info: Info,
 ) -> Result<Vec<u8>, OutOfMemory>
     requires ready { IsReady D.Disk store.old disk.old }
@@ -209,7 +214,7 @@ fn read_all<D: Disk>(
 }
 
 /// Whether these octets are the file, stamped for this number and caller and the moment that they say themselves.
-fn is_stamped(file: FileBytes, octets: &[u8], number: u32, caller: Call) -> bool
+fn is_stamped(file: FileBytes, octets: &[u8], number: FileNumber, caller: Call) -> bool
     ensures { IsUpload file → IsStampedFor file number caller octets.now → result ≡ true }
 {
     let Some(moment) = upload_time(octets) else {
@@ -224,7 +229,7 @@ fn is_stamped(file: FileBytes, octets: &[u8], number: u32, caller: Call) -> bool
 }
 
 /// The moment that a file without fault says it was stamped at, if it does.
-fn upload_time(file: &[u8]) -> Option<u32>
+fn upload_time(file: &[u8]) -> Option<Moment>
     ensures { (items : List ItemValue) (body : List ℕ) → FileText items body file.now
         → fault_code file.now ≡ None → result ≡ moment_in items }
 {
@@ -235,5 +240,5 @@ fn upload_time(file: &[u8]) -> Option<u32>
     if moment.len() != 4 {
         return None;
     }
-    Some(le32(moment, 0))
+    Some(Moment::new(le32(moment, 0)))
 }

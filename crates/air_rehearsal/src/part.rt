@@ -17,10 +17,10 @@ ghost use Rattle.air_rehearsal.specs.Worlds.{IsSteady};
 use crate::cuts::Cut;
 use crate::party::Party;
 use air_world::laws::sound_law;
-use client_notes::LONGEST_FILE;
 use client_notes::laws::{armed_law, images_law};
+use client_notes::{LONGEST_FILE, TaskNumber};
 use disk_model::{CutDisk, Disk, Halt};
-use px_base::{FileBytes, OutOfMemory};
+use px_base::{FileBytes, FileNumber, OutOfMemory};
 use std::alloc::Global;
 
 /// The most octets of a selection that is asked.
@@ -39,9 +39,9 @@ pub(crate) enum Part {
     /// It is asked to go on with its last unfinished upload.
     Resume {
         /// The task.
-        task: u32,
+        task: TaskNumber,
         /// Its number on the server; 0 where it has none.
-        number: u32,
+        number: FileNumber,
         /// Its file.
         file: FileBytes,
     },
@@ -53,7 +53,7 @@ pub(crate) enum Part {
     /// It is asked for a file.
     Download {
         /// The file's number.
-        number: u32,
+        number: FileNumber,
     },
     /// It hears a transmission of the server.
     Hear {
@@ -87,7 +87,7 @@ impl Party {
                 self.is_free() && file.len() <= LONGEST_FILE as usize
             }
             Part::List { tokens } => self.is_free() && tokens.len() <= MOST_TOKENS,
-            Part::Download { number } => self.is_free() && *number >= 1,
+            Part::Download { number } => self.is_free() && number.get() >= 1,
             Part::Hear { .. } | Part::Tick => true,
         }
     }

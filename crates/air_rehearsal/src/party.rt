@@ -35,11 +35,11 @@ use crate::cuts::Cut;
 use arrayvec::ArrayVec;
 use ax25_frames::{Frame, read_frame};
 use client_notes::laws::images_law;
-use client_notes::{Begun, MOST_TASKS, Noted, Notes, NotesRefusal};
+use client_notes::{Begun, MOST_TASKS, Noted, Notes, NotesRefusal, TaskNumber};
 use disk_model::{CutDisk, Disk, Halt};
 use ftl0_client::{Client, Job, Outcome};
 use itoa::Buffer;
-use px_base::{Call, FileBytes, OutOfMemory};
+use px_base::{Call, FileBytes, FileNumber, OutOfMemory};
 use std::alloc::Global;
 
 /// A client of the server, over the notes of its disk, with what it and the server sent in its newest attempt.
@@ -126,8 +126,8 @@ impl Party {
         }
     }
 
-    /// What became of what was asked last.
-    pub(crate) fn outcome(&self) -> Outcome
+    /// What became of what was asked last, if anything did.
+    pub(crate) fn outcome(&self) -> Option<Outcome>
         ensures { (client : ClientValue) → IsClient self.now.client client → result ≡ outcome_by client.attempt }
     {
         self.client.outcome()
@@ -138,17 +138,17 @@ impl Party {
         ensures free { IsTrue result ↔ IsFree self.now.client }
         ensures party { (seat : Seat) → IsSeat self.now seat → IsTrue result ↔ IsFreeParty seat.party }
     {
-        self.client.outcome() != Outcome::Working
+        !self.client.is_under_way()
     }
 
     /// The last task that is unfinished, if one is, with its number on the server, 0 where it has none.
-    pub(crate) fn last_going(&self) -> Option<(u32, u32)>
+    pub(crate) fn last_going(&self) -> Option<(TaskNumber, FileNumber)>
         ensures some { IfSome result (λ going. 1 ≤ going.0) }
         ensures last { (seat : Seat) → IsSeat self.now seat → IsLastGoing seat.party.client.lists result }
     {
         let notes = self.client.notes();
         for back in 0..notes.tasks() {
-            let task = notes.tasks() - back;
+            let task = TaskNumber::new(notes.tasks() - back);
             if let Some(number) = number_if_going(notes.noted_task(task)) {
                 return Some((task, number));
             }
@@ -157,13 +157,13 @@ impl Party {
     }
 
     /// The number on the server of the last file that was acknowledged, if one was.
-    pub(crate) fn last_acked(&self) -> Option<u32>
+    pub(crate) fn last_acked(&self) -> Option<FileNumber>
         ensures last { (seat : Seat) → IsSeat self.now seat → result ≡ last_acked_in seat.party.client.lists }
         ensures some { (seat : Seat) → IsSeat self.now seat → IfSome result (λ number. 1 ≤ number) }
     {
         let notes = self.client.notes();
         for back in 0..notes.tasks() {
-            let task = notes.tasks() - back;
+            let task = TaskNumber::new(notes.tasks() - back);
             if let Some(number) = number_if_acked(notes.noted_task(task)) {
                 return Some(number);
             }
@@ -197,7 +197,7 @@ impl Party {
         disk: &mut D,
         upload: u32,
         file: &[u8],
-    ) -> Result<u32, Halt>
+    ) -> Result<TaskNumber, Halt>
         requires ready { IsReadyParty D.Disk self.old disk.old }
         requires free { IsFree self.old.client }
         requires short { length file.now ≤ longest_file }
@@ -216,9 +216,12 @@ impl Party {
             .client
             .start_task(disk, name.format(upload), length, digest)
         {
-            Ok(Begun::Fresh { task }) => Ok(task),
+            Ok(begun) => match begun {
+                Begun::Fresh { task } => Ok(task),
+                _ => Err(Halt::OutOfMemory),
+            },
             Err(NotesRefusal::Disk) => Err(Halt::Disk),
-            Ok(_) | Err(_) => Err(Halt::OutOfMemory),
+            Err(_) => Err(Halt::OutOfMemory),
         }
     }
 
@@ -242,7 +245,8 @@ impl Party {
         let Ok(task) = self.start(disk, upload, file.as_slice()) else {
             return Err(OutOfMemory);
         };
-        self.client.ask(alloc, Job::upload(task, 0, file))?;
+        self.client
+            .ask(alloc, Job::upload(task, FileNumber::new(0), file))?;
         self.note_task(upload)
     }
 
@@ -253,8 +257,8 @@ impl Party {
         &mut self,
         disk: &mut D,
         upload: u32,
-        task: u32,
-        number: u32,
+        task: TaskNumber,
+        number: FileNumber,
         file: &[u8],
     ) -> Result<(), OutOfMemory>
         requires ready { IsReadyParty D.Disk self.old disk.old }
@@ -267,20 +271,28 @@ impl Party {
         let mut buffer = Buffer::new();
         let name = buffer.format(upload);
         let noted = self.client.notes().noted(self.server, self.me, name);
-        let Some(Noted::Going { .. }) = noted else {
+        let Some(noted) = noted else {
+            return Err(OutOfMemory);
+        };
+        let Noted::Going { .. } = noted else {
             return Err(OutOfMemory);
         };
         let digest = sum_of(file);
         let length = file.len() as u32;
-        match self.client.start_task(disk, name, length, digest) {
-            Ok(
-                Begun::Going {
-                    task: found,
-                    number: known,
-                },
-            ) if found == task && known == number => Ok(()),
-            _ => Err(OutOfMemory),
+        let Ok(begun) = self.client.start_task(disk, name, length, digest) else {
+            return Err(OutOfMemory);
+        };
+        let Begun::Going {
+            task: found,
+            number: known,
+        } = begun
+        else {
+            return Err(OutOfMemory);
+        };
+        if found != task || known != number {
+            return Err(OutOfMemory);
         }
+        Ok(())
     }
 
     /// The client is asked again for the upload of its last unfinished task. Takes memory.
@@ -288,8 +300,8 @@ impl Party {
         &mut self,
         alloc: Global,
         disk: &mut D,
-        task: u32,
-        number: u32,
+        task: TaskNumber,
+        number: FileNumber,
         file: FileBytes,
     ) -> Result<(), OutOfMemory>
         requires ready { IsReadyParty D.Disk self.old disk.old }
@@ -301,10 +313,10 @@ impl Party {
             → BeginsPart D.Disk whole self.old self.new disk.old disk.new) }
         ensures untouched { disk.new ≡ disk.old }
     {
-        if task == 0 {
+        if task.get() == 0 {
             return Err(OutOfMemory);
         }
-        let Some(upload) = self.uploads.get((task - 1) as usize) else {
+        let Some(upload) = self.uploads.get((task.get() - 1) as usize) else {
             return Err(OutOfMemory);
         };
         let upload = *upload;
@@ -338,7 +350,7 @@ impl Party {
         &mut self,
         alloc: Global,
         _disk: &mut D,
-        number: u32,
+        number: FileNumber,
     ) -> Result<(), OutOfMemory>
         requires ready { IsReadyParty D.Disk self.old _disk.old }
         requires free { IsFree self.old.client }
@@ -428,21 +440,27 @@ pub(crate) fn frame_for(me: Call, octets: &[u8]) -> Option<Frame<'_>>
 }
 
 /// The number on the server of a task that is unfinished; none of any other.
-fn number_if_going(noted: Option<Noted>) -> Option<u32>
+fn number_if_going(noted: Option<Noted>) -> Option<FileNumber>
     ensures { result ≡ number_if_going noted }
 {
+    let Some(noted) = noted else {
+        return None;
+    };
     match noted {
-        Some(Noted::Going { number, .. }) => Some(number),
+        Noted::Going { number, .. } => Some(number),
         _ => None,
     }
 }
 
 /// The number on the server of a task that was acknowledged; none of any other.
-fn number_if_acked(noted: Option<Noted>) -> Option<u32>
+fn number_if_acked(noted: Option<Noted>) -> Option<FileNumber>
     ensures { result ≡ number_if_acked noted }
 {
+    let Some(noted) = noted else {
+        return None;
+    };
     match noted {
-        Some(Noted::Acked { number, .. }) => Some(number),
+        Noted::Acked { number, .. } => Some(number),
         _ => None,
     }
 }

@@ -25,7 +25,7 @@ use air_world::laws::sound_law;
 use client_notes::laws::images_law;
 use disk_model::CutDisk;
 use ftl0_server::Server;
-use px_base::{FileBytes, OutOfMemory};
+use px_base::{FileBytes, FileNumber, Moment, OutOfMemory};
 
 impl Stations {
     /// Plays an event that may come, over the server's disk and the clients'. Where memory is wanting the server is
@@ -66,7 +66,7 @@ impl Stations {
         ensures { CountsEvent self.old self.new }
     {
         self.report.count_event();
-        self.moment = self.moment.wrapping_add(1);
+        self.moment = Moment::new(self.moment.get().wrapping_add(1));
     }
 
     /// Plays an event that was counted. Takes memory.
@@ -318,7 +318,12 @@ impl Stations {
                 part_at(*client, Part::List { tokens })
             }
             Event::AskDownload { client, number } => {
-                part_at(*client, Part::Download { number: *number })
+                part_at(
+                    *client,
+                    Part::Download {
+                        number: FileNumber::new(*number),
+                    },
+                )
             }
             Event::ToClient {
                 client,
@@ -339,9 +344,10 @@ impl Stations {
         let Some(party) = self.party(client) else {
             return Err(OutOfMemory);
         };
-        let Some((task, number)) = party.last_going() else {
+        let Some(going) = party.last_going() else {
             return Err(OutOfMemory);
         };
+        let (task, number) = going;
         match self.file_at(party, task)? {
             Some(file) => part_at(client, Part::Resume { task, number, file }),
             None => Err(OutOfMemory),

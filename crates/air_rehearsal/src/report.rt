@@ -67,14 +67,14 @@ impl Report {
     }
 
     /// What was asked came to this, if it isn't under way.
-    pub(crate) fn count_outcome(&mut self, outcome: Outcome)
+    pub(crate) fn count_outcome(&mut self, outcome: Option<Outcome>)
         ensures { TellsThen (outcome_more outcome) self.old self.new }
     {
         match outcome {
-            Outcome::Refused { .. } | Outcome::BadFile { .. } => {
+            Some(Outcome::Refused { .. } | Outcome::BadFile { .. }) => {
                 self.refused = self.refused.saturating_add(1);
             }
-            Outcome::Fetched { .. } => self.fetched = self.fetched.saturating_add(1),
+            Some(Outcome::Fetched { .. }) => self.fetched = self.fetched.saturating_add(1),
             _ => {}
         }
     }

@@ -32,7 +32,7 @@ use disk_model::CutDisk;
 use file_store::Limits;
 use ftl0_server::Server;
 use px_base::laws::one_call;
-use px_base::{Call, OutOfMemory};
+use px_base::{Call, Moment, OutOfMemory};
 use std::alloc::Global;
 
 /// The characters of the server's call.
@@ -55,7 +55,7 @@ pub(crate) struct Stations {
     /// The cut that comes in the server's next event.
     pub cut: Option<Cut>,
     /// The moment of the event: its number, from 1 on, as a clock of 32 bits tells it.
-    pub moment: u32,
+    pub moment: Moment,
     /// What came of the events so far, but for what is counted at the end.
     pub report: Report,
 }
@@ -89,7 +89,7 @@ impl Stations {
             parties,
             uploads: Vec::new(alloc),
             cut: None,
-            moment: 0,
+            moment: Moment::new(0),
             report: Report::new(),
         })
     }

@@ -1,10 +1,9 @@
 -- What is promised holds where a client's notes say more, as far as they are right.
 use Rattle.std.proofs.Common.{◌≡◌, ◌⊎◌, ℕ, List, Some, sym, ap, subst, ◌∙◌, inl, inr}
 use Rattle.client_notes.specs.declared.answers.Noted.TheVariants as noted
-use Rattle.ftl0_job.specs.declared.ending.Outcome.TheVariants as reached
-use Rattle.ftl0_client.specs.declared.outcome.Outcome.TheVariants as outcome
+use Rattle.ftl0_job.specs.declared.ending.Outcome.TheVariants as outcome
 use Rattle.air_files.specs.Kept.{HoldsAck, IsKept, IsTaskKept}
-use Rattle.air_world.proofs.Names.{slice_get, HasNoFault, HasNoFront, Store, file_of, noted_at, Lists, got_of, outcome_of, outcome_by, Reached, Attempt, Asked, IsFileOf, Party, newest, Offers, ClientSide, ServerSide, set-at, HasWhole, HeadlineIn, Offered, Sound, PartyAt, World, with_party}
+use Rattle.air_world.proofs.Names.{slice_get, HasNoFault, HasNoFront, Store, file_of, noted_at, Lists, got_of, outcome_of, outcome_by, Attempt, Asked, IsFileOf, Party, newest, Offers, ClientSide, ServerSide, set-at, HasWhole, HeadlineIn, Offered, Sound, PartyAt, World, with_party}
 use Rattle.air_world.proofs.PartsLemmas.{are-offered, fetched-current, has-headline}
 
 -- The client is that one, but for its notes, and for what is marked as delivered of its transmissions.
@@ -26,7 +25,7 @@ pub record AreRight (world : World) (party : Party) (lists : Lists) : Type 0 whe
       → IsTaskKept world.files world.server.store party task number
   pub fetched :
       (place number : ℕ) (a : Attempt) → slice_get party.attempts place ≡ Some a
-      → outcome_of a.client.attempted ≡ Some (Reached (reached.Fetched number))
+      → outcome_of a.client.attempted ≡ Some (outcome.Fetched number)
       → file_of world.server.store number ≡ Some (got_of lists party.client.server number)
 
 kept-moved : (files : List Asked) (store : Store) (party now : Party) (task number : ℕ) → StaysBut party now
@@ -53,7 +52,7 @@ module _ (fault : HasNoFault) (front : HasNoFront) (world : World) (sound : Soun
   then-is number that there = set-at world.parties c number now that there
 
   whole : (place number : ℕ) (a : Attempt) → slice_get party.attempts place ≡ Some a
-      → outcome_of a.client.attempted ≡ Some (Reached (reached.Fetched number)) → HasWhole world.server.store now number
+      → outcome_of a.client.attempted ≡ Some (outcome.Fetched number) → HasWhole world.server.store now number
   whole place number a at reached =
       right.fetched place number a at reached
       ∙ ap (λ server. Some (got_of now.client.lists server number)) (sym stays.server)
@@ -95,16 +94,16 @@ module _ (fault : HasNoFault) (front : HasNoFront) (world : World) (sound : Soun
   }
 
   fetched : (number file : ℕ) (that : Party) → IsThen number that
-      → outcome_by that.client.attempt ≡ outcome.Fetched file → HasWhole world.server.store that file
+      → outcome_by that.client.attempt ≡ Some (outcome.Fetched file) → HasWhole world.server.store that file
   fetched number file that (inl own) reached =
-      let was : outcome_by party.client.attempt ≡ outcome.Fetched file =
+      let was : outcome_by party.client.attempt ≡ Some (outcome.Fetched file) =
       ap outcome_by (sym stays.link) ∙ ap (λ (p : Party). outcome_by p.client.attempt) (sym own.1) ∙ reached in
       let current = fetched-current (newest party) party.client.attempt file (sound.parties c party is).link was in
       subst (λ (p : Party). HasWhole world.server.store p file) (sym own.1) (whole 0 file current.0 current.1 current.2)
   fetched number file that (inr other) reached = headline.fetched number file that other.1 reached
 
   fetched-before : (number place file : ℕ) (that : Party) (a : Attempt) → IsThen number that
-      → slice_get that.attempts place ≡ Some a → outcome_of a.client.attempted ≡ Some (Reached (reached.Fetched file))
+      → slice_get that.attempts place ≡ Some a → outcome_of a.client.attempted ≡ Some (outcome.Fetched file)
       → HasWhole world.server.store that file
   fetched-before number place file that a (inl own) at reached =
       let was = stays.each place a (subst (λ (p : Party). slice_get p.attempts place ≡ Some a) own.1 at) in

@@ -6,8 +6,7 @@ pub use Rattle.air_attempt.specs.Lists.{AreFirstOf, Has, OneIs, Placed}
 pub use Rattle.air_attempt.specs.Party.{AreOver, Asked, EachAttempt, EachSide, IsFileOf, IsLinkOf, OnlyNewestUp, Party, all_over, client_sends, first_party, newest, newest_side, over, server_sends, sessions_over, to_client_delivered, to_server_delivered, upload_of, with_answered, with_newest}
 pub use Rattle.air_attempt.specs.Said.{AsksUpload, Grants, IsAnswer, Offers, octets_come, said_behind_server}
 pub use Rattle.air_attempt.specs.Sides.{ClientSide, IsJob, IsSession, ServerSide, SessionReaches, said_by_server}
-pub use Rattle.air_attempt.specs.Transfers.{ClientDid, ServerDid, after_client_tick, after_event, after_hearing, after_tick, beginning, begun, called_again, connection_of, did_by, did_to, gone_on, has_call, has_session, heard_by, job_gone_on, opened, ticked_by}
-unfoldable pub use Rattle.air_attempt.specs.Transfers.{served}
+pub use Rattle.air_attempt.specs.Transfers.{ClientDid, ServerDid, after_client_tick, after_event, after_hearing, after_tick, beginning, begun, called_again, connection_of, did_by, did_to, gone_on, has_call, has_session, heard_by, job_gone_on, opened, served, ticked_by}
 pub use Rattle.air_files.proofs.Offered.{acked-task, alike-itself, complete-entry, drop-keeps, drop-sound, each-side, facts-first, facts-removed, file-more, found-such, keeps-file, keeps-offer, keeps-task_kept, later-number, no-task, over-alike, place-more, served-itself, side-at, such-first, task-file, task-some, task_for, tasked-acked, tasks-lists}
 pub use Rattle.air_files.specs.Facts.{AreFirstIfAny, GoesOnWithTask, HasFacts, HasFetched, HasNumber, IsGrantKept, IsGranted, IsNumbered, IsOfferKept, Receives, got}
 pub use Rattle.air_files.specs.Laws.{BeginLaw, GrantedAt, GrantsOnce, IsBeginning, IsGreeted, IsSameParty, IsServed, IsWorking, JobGoes, JobKeeps, JobTookFront, LeftIn, LookLike, LooksLike, LooksLikeSession, LooksServed, SessionGoes, SessionKeeps, Stands, StayLaw, job_gone, session_gone, started_with, with_attempt, with_job}
@@ -56,8 +55,7 @@ pub use Rattle.ftl0_client.specs.Client.{Client, IsSilent, Refused, asks, attemp
 pub use Rattle.ftl0_client.specs.ClientStep.{ClientStep}
 pub use Rattle.ftl0_client.specs.Entries.{JobEntry}
 pub use Rattle.ftl0_client.specs.Laws.{EndFits, SomeStepLaw}
-pub use Rattle.ftl0_client.specs.Outcomes.{outcome_as, outcome_by, outcome_of_job}
-pub use Rattle.ftl0_client.specs.declared.attempt.outcome.AttemptOutcome.TheVariants.{LinkDown, Reached}
+pub use Rattle.ftl0_client.specs.Outcomes.{outcome_by}
 pub use Rattle.ftl0_job.specs.Directory.{new_directory}
 pub use Rattle.ftl0_job.specs.Download.{new_download}
 pub use Rattle.ftl0_job.specs.JobState.{GoWith, IsNotBegun, NotesGoWith}

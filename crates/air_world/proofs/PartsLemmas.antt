@@ -1,11 +1,8 @@
 -- A sound world has all parts, and what is promised of uploads and downloads holds in it.
 use Rattle.std.proofs.Common.{◌≡◌, ℕ, refl, ap, sym, ◌∙◌, subst, Option, None, Some}
-use Rattle.ftl0_job.specs.declared.ending.Outcome.{Outcome}
-use Rattle.ftl0_job.specs.declared.ending.Outcome.TheVariants as reached
+use Rattle.ftl0_job.specs.declared.ending.Outcome.TheVariants as outcome
 use Rattle.ftl0_job.specs.declared.work.Work.TheVariants as work
-use Rattle.ftl0_client.specs.declared.attempt.outcome.AttemptOutcome.{AttemptOutcome}
-use Rattle.ftl0_client.specs.declared.outcome.Outcome.TheVariants as outcome
-use Rattle.air_world.proofs.Names.{slice_get, same_Some, fault_code, HasNoFault, HasNoFront, new_upload, Attempted, outcome_of, LinkDown, Reached, outcome_as, outcome_by, outcome_of_job, Attempt, IsAnswered, IsAnsweredBy, IsAttempt, Has, EachSide, IsLinkOf, Party, newest, Grants, Offers, ServerSide, each-at, each-weaker, has-at, one-placed, some-from, HasFetched, HasNumber, IsGrantKept, IsOfferKept, got, IsWork, each-side, side-at, HasWhole, HeadlineIn, Offered, AreGranted, AreInState, AreNumbered, DoNumbersFit, DoOctetsFit, EachParty, HasParts, IsGiven, OfCurrent, IsParty, Sound, PartyAt, World}
+use Rattle.air_world.proofs.Names.{slice_get, same_Some, fault_code, HasNoFault, HasNoFront, new_upload, Attempted, outcome_of, outcome_by, Attempt, IsAnswered, IsAnsweredBy, IsAttempt, Has, EachSide, IsLinkOf, Party, newest, Grants, Offers, ServerSide, each-at, each-weaker, has-at, one-placed, some-from, HasFetched, HasNumber, IsGrantKept, IsOfferKept, got, IsWork, each-side, side-at, HasWhole, HeadlineIn, Offered, AreGranted, AreInState, AreNumbered, DoNumbersFit, DoOctetsFit, EachParty, HasParts, IsGiven, OfCurrent, IsParty, Sound, PartyAt, World}
 use Rattle.air_world.proofs.NumberedLemmas.{IsTaskGrant, are-acknowledged, are-numbered, same-grant, task-grant}
 use Rattle.air_world.proofs.ReceivesLemmas.{receives-file, session-of}
 use Rattle.air_world.proofs.WholeLemmas.{whole-got}
@@ -118,39 +115,23 @@ are-offered world sound number offset offered =
 
 -- ---- what was fetched
 
--- the outcome of a job by that of its client
-fetched-job : (it : Outcome) (number : ℕ) → outcome_of_job it ≡ outcome.Fetched number → it ≡ reached.Fetched number
-fetched-job (reached.Acked other) number is = absurd (cc)
-fetched-job (reached.Refused code) number is = absurd (cc)
-fetched-job (reached.BadFile code) number is = absurd (cc)
-fetched-job (reached.Fetched other) number is = cc
-fetched-job reached.Listed number is = absurd (cc)
-fetched-job (reached.Strange kind) number is = absurd (cc)
-
-fetched-attempt : (it : Option AttemptOutcome) (number : ℕ) → outcome_as it ≡ outcome.Fetched number
-    → it ≡ Some (Reached (reached.Fetched number))
-fetched-attempt None number is = absurd (cc)
-fetched-attempt (Some (Reached of)) number is = ap (λ of. Some (Reached of)) (fetched-job of number is)
-fetched-attempt (Some (LinkDown why)) number is = absurd (cc)
-
 pub fetched-current : (current : Option Attempt) (link : Option Attempted) (number : ℕ) → IsLinkOf current link
-    → outcome_by link ≡ outcome.Fetched number
-    → (a : Attempt) × (current ≡ Some a) × (outcome_of a.client.attempted ≡ Some (Reached (reached.Fetched number)))
+    → outcome_by link ≡ Some (outcome.Fetched number)
+    → (a : Attempt) × (current ≡ Some a) × (outcome_of a.client.attempted ≡ Some (outcome.Fetched number))
 fetched-current current None number link is = absurd (cc)
 fetched-current None (Some attempted) number link is = absurd link
-fetched-current (Some a) (Some attempted) number link is =
-    (a, refl, ap outcome_of link ∙ fetched-attempt (outcome_of attempted) number is)
+fetched-current (Some a) (Some attempted) number link is = (a, refl, ap outcome_of link ∙ is)
 
 -- the file that an attempt fetched has no fault
 fetched-good : (world : World) (c place number : ℕ) (party : Party) (a : Attempt) → Sound world → PartyAt world c party
-    → slice_get party.attempts place ≡ Some a → outcome_of a.client.attempted ≡ Some (Reached (reached.Fetched number))
+    → slice_get party.attempts place ≡ Some a → outcome_of a.client.attempted ≡ Some (outcome.Fetched number)
     → fault_code (got party number) ≡ None
 fetched-good world c place number party a sound there at is =
     each-at (HasFetched party) party.attempts a (sound.parties c party there).facts.files_got.fetched
     (has-at party.attempts place a at) number is
 
 fetched-now : (world : World) (c number : ℕ) (party : Party) → Sound world → PartyAt world c party
-    → outcome_by party.client.attempt ≡ outcome.Fetched number → fault_code (got party number) ≡ None
+    → outcome_by party.client.attempt ≡ Some (outcome.Fetched number) → fault_code (got party number) ≡ None
 fetched-now world c number party sound there is =
     let it = fetched-current (newest party) party.client.attempt number (sound.parties c party there).link is in
     fetched-good world c 0 number party it.0 sound there it.1 it.2

@@ -4,10 +4,8 @@ use Rattle.file_entries.specs.Follows.{KeepsEntries}
 use Rattle.file_store.specs.Store.{Store}
 use Rattle.ftl0_session.specs.Downloads.Table.{file_of}
 use Rattle.client_notes.specs.Notes.{got_of}
-use Rattle.ftl0_job.specs.declared.ending.Outcome.TheVariants as reached
-use Rattle.ftl0_client.specs.declared.attempt.outcome.AttemptOutcome.TheVariants.{Reached}
 use Rattle.ftl0_client.specs.Attempt.Attempted.{outcome_of}
-use Rattle.ftl0_client.specs.declared.outcome.Outcome.TheVariants as outcome
+use Rattle.ftl0_client.specs.Outcome.TheVariants as outcome
 use Rattle.ftl0_client.specs.Outcomes.{outcome_by}
 use Rattle.air_attempt.specs.Attempt.{Attempt}
 use Rattle.air_world.specs.Offered.{Offered}
@@ -30,11 +28,11 @@ pub record HeadlineIn (world : World) (store : Store) : Type 0 where
   pub offered : (number offset : ℕ) → Offered world number offset → WhereStands store number (HoldsTo offset)
   pub fetched :
       (c number : ℕ) (party : Party) → PartyAt world c party
-      → outcome_by party.client.attempt ≡ outcome.Fetched number → HasWhole store party number
+      → outcome_by party.client.attempt ≡ Some (outcome.Fetched number) → HasWhole store party number
   pub fetched_before :
       (c place number : ℕ) (party : Party) (a : Attempt) → PartyAt world c party
       → slice_get party.attempts place ≡ Some a
-      → outcome_of a.client.attempted ≡ Some (Reached (reached.Fetched number)) → HasWhole store party number
+      → outcome_of a.client.attempted ≡ Some (outcome.Fetched number) → HasWhole store party number
 
 -- What is promised holds still in a store that keeps the entries of one in which it holds, where the numbers of all
 -- offers are below the next one.

@@ -1,13 +1,12 @@
 -- Which events may come in a world: each by its own condition, and a delivery by the air's three premises.
-use Rattle.std.specs.Prelude.{◌≡◌, ◌≢◌, ℕ, ◌-◌, ◌<◌, List, reverse, Option, Some, ⊤}
+use Rattle.std.specs.Prelude.{◌≡◌, ℕ, ◌-◌, ◌<◌, List, reverse, false, Option, Some, ⊤}
 use Rattle.std.specs.List.{position}
 use Rattle.std.specs.Option.{option_map}
 use Rattle.ax25_link.specs.Air.{IsLawful, Transmission}
 use Rattle.client_notes.specs.Command.{is_going}
 use Rattle.client_notes.specs.Limits.{most_tasks}
 use Rattle.client_notes.specs.Notes.{Lists, task_count}
-use Rattle.ftl0_client.specs.declared.outcome.Outcome.TheVariants as outcome
-use Rattle.ftl0_client.specs.Outcomes.{outcome_by}
+use Rattle.ftl0_client.specs.Outcomes.{is_under_way}
 use Rattle.air_attempt.specs.Attempt.{Attempt}
 use Rattle.air_attempt.specs.Lists.{Placed}
 use Rattle.air_attempt.specs.Party.{Party, newest}
@@ -21,7 +20,7 @@ HasParty world number P = Placed number (λ c. (party : Party) × PartyAt world 
 
 -- nothing that was asked of the client is under way
 abbrev pub IsFree : Party → Type 0
-IsFree party = outcome_by party.client.attempt ≢ outcome.Working
+IsFree party = is_under_way party.client.attempt ≡ false
 
 -- the number of the last unfinished task, and so of the last unfinished upload
 abbrev pub last_unfinished : Lists → Option ℕ

@@ -9,7 +9,7 @@ use Rattle.file_store.specs.Info.{IsCompleteIn}
 use Rattle.file_store.specs.Store.{Entry, entry_of, partial}
 use Rattle.ftl0_session.specs.Downloads.Needs.{AreComplete}
 use Rattle.ftl0_session.specs.Table.{receiving}
-use Rattle.ftl0_client.specs.declared.outcome.Outcome.TheVariants as outcome
+use Rattle.ftl0_client.specs.Outcome.TheVariants as outcome
 use Rattle.ftl0_client.specs.Outcomes.{outcome_by}
 use Rattle.air_attempt.specs.Attempt.{Attempt, client_station, server_station}
 use Rattle.air_files.specs.Facts.{AreFirstIfAny, HasNumber, IsBegun, IsFetching, IsOfferKept, got}
@@ -139,7 +139,7 @@ pub record AreGot (world : World) : Type 0 where
   pub fetching : EachParty world (λ party. IfSome (newest party) (IsFetching world.server.store party))
   pub fetched :
       EachParty world
-      (λ party. (number : ℕ) → outcome_by party.client.attempt ≡ outcome.Fetched number
+      (λ party. (number : ℕ) → outcome_by party.client.attempt ≡ Some (outcome.Fetched number)
       → fault_code (got party number) ≡ None)
 
 -- All parts. What they say of sides of attempts they say of the server's sessions and of the clients' jobs: these are

@@ -27,5 +27,5 @@ pub returns : goal.returns
 returns c items body text fine =
     let same = one_header c.args.file.now c.in-Ok.header.items items _ body c.in-Ok.ensures.ok.file_text text in
     let field = ap option_copied (sym c.in_ok-moment.was) ∙ c.field.ensures in
-    ap Some c.le32.ensures ∙ sym (number-four c.in_ok-moment.moment.now (search rules)) ∙ ap number_in field
+    ap Some (c.new.ensures ∙ c.le32.ensures) ∙ sym (number-four c.in_ok-moment.moment.now (search rules)) ∙ ap number_in field
     ∙ ap (λ (them : List ItemValue). number_in (field_of 0x12 them)) same.0

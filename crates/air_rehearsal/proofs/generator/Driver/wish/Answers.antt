@@ -1,7 +1,7 @@
 -- What the client of the number is asked for.
-use Rattle.std.proofs.Common.{rules, ◌≡◌, ◌%◌, ℕ, Option, None, Some, refl, sym, ap, ◌∙◌}
+use Rattle.std.proofs.Common.{rules, ◌≡◌, ◌≤◌, ◌%◌, ℕ, Option, None, Some, refl, sym, ap, subst, ◌∙◌}
 use Rattle.air_attempt.specs.Party.{Party}
-use Rattle.air_rehearsal.proofs.Names.{min, option_map, option_map_or, event_value, ask_upload, Draw, next_number, none_drawn, state_after, wish_of, Seat}
+use Rattle.air_rehearsal.proofs.Names.{min, option_map, option_map_or, event_value, ask_download, ask_upload, Draw, next_number, none_drawn, state_after, wish_of, Seat}
 use Rattle.air_rehearsal.proofs.AllowedLemmas.{has-party}
 use Rattle.air_rehearsal.proofs.NumberedLemmas.{none-here}
 use Rattle.air_rehearsal.proofs.WishLemmas.{downloads, draws-none, draws-question, draws-resume, going-is, none-going}
@@ -48,7 +48,7 @@ returns-in-Some-clause-fits c world sound plays =
     let stored = c.in_ok-party.party.now in
     let it = has-party self.stations world sound plays c.args.client stored c.in_ok-party.ensures in
     let some = c.in-Some.ensures.some (record { world = world; c = it.c; party = it.party }) it.seat in
-    (some, search rules)
+    (subst (λ (n : ℕ). 1 ≤ n) (sym c.get.ensures) some, search rules)
 
 pub returns-in-Some-clause-wish : goal.returns-in-Some-clause-wish
 returns-in-Some-clause-wish c world sound plays =
@@ -63,7 +63,8 @@ returns-in-Some-clause-wish c world sound plays =
     let fourth : (drawn % 4) ≡ 0 = ap (λ (n : ℕ). n % 4) (sym c.next-drawn.ensures.number) ∙ c.if-drawn-eq0.true in
     draws-question self.stations world sound plays c.args.client self.draws.state stored it free _
     (Some c.in-Some.number) c.next-drawn.new.self.state (last ∙ none) (sym (c.in-Some.ensures.last seat it.seat))
-    (sym (downloads drawn c.args.client c.in-Some.number fourth)) c.next-drawn.ensures.state
+    (ap (ask_download c.args.client) c.get.ensures ∙ sym (downloads drawn c.args.client c.in-Some.number fourth))
+    c.next-drawn.ensures.state
 
 pub returns-in_default-clause-wish : goal.returns-in_default-clause-wish
 returns-in_default-clause-wish c world sound plays =

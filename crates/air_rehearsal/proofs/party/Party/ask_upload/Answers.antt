@@ -1,5 +1,8 @@
 -- The task of the file is begun, and then its upload is asked.
-use Rattle.std.proofs.Common.{sym, subst, List, ℕ}
+use Rattle.std.proofs.Common.{sym, subst, ap, ◌∙◌, List, ℕ}
+use Rattle.ftl0_job.specs.declared.work.Work.TheVariants as work
+use Rattle.ftl0_job.specs.Table.{new_job}
+use Rattle.ftl0_job.specs.Upload.{new_upload}
 use Rattle.air_rehearsal.proofs.Names.{AsksNext}
 use Rattle.air_rehearsal.proofs.PartLemmas.{ok_then}
 use Rattle.air_rehearsal.proofs.UploadLemmas.{begins_upload}
@@ -14,7 +17,9 @@ returns-clause-begins g c =
     begins_upload g.D.Disk c.args.self.now c.start.new.self c.note_task.new.self seat c.args.upload c.args.file whole
     c.in-Ok.task c.ask.new.self c.upload.result c.args.disk.now c.start.new.disk at_seat asked
     (c.in-Ok.ensures.touches seat whole at_seat asked_so) (c.in-Ok.ensures.starts seat whole at_seat asked_so)
-    c.start.ensures.keeps c.in_ok-ask.ensures.asks c.upload.ensures c.in_ok-ask.ensures.notes.notes
+    c.start.ensures.keeps c.in_ok-ask.ensures.asks
+    (c.upload.ensures ∙ ap (λ (n : ℕ). new_job (work.Upload (new_upload c.in-Ok.task n c.args.file))) c.new.ensures)
+    c.in_ok-ask.ensures.notes.notes
     c.note_task.ensures.keeps uploads)
     c.note_task.ensures.notes
 

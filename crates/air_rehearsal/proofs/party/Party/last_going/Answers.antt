@@ -11,11 +11,11 @@ returns-in-Some-clause-last c seat is =
     let same : c.notes-notes.result.now.lists ≡ lists =
     ap (λ (notes : NotesState). notes.lists) c.notes-notes.ensures ∙ is.plays.client.lists in
     let count : c.tasks.result ≡ task_count lists = c.tasks.ensures.count ∙ ap task_count same in
+    let task : c.new-task.result ≡ task_count lists - back = c.new-task.ensures ∙ ap (λ (n : ℕ). n - back) count in
     let end : c.tasks-back-end.result ≡ task_count lists = c.tasks-back-end.ensures.count ∙ ap task_count same in
     let told : c.noted_task.result ≡ noted_at lists (task_count lists - back) =
-    c.noted_task.ensures ∙ ap (λ (l : Lists). noted_at l (c.tasks.result - back)) same
-    ∙ ap (λ (n : ℕ). noted_at lists (n - back)) count in
-    subst (λ (n : ℕ). IsLastGoing lists (Some (n - back, c.in-Some.number))) (sym count)
+    c.noted_task.ensures ∙ ap (λ (l : Lists). noted_at l c.new-task.result) same ∙ ap (noted_at lists) task in
+    subst (λ (n : ℕ). IsLastGoing lists (Some (n, c.in-Some.number))) (sym task)
     (going-found lists back (omega (arith, c.loop-back-test.true, end))
     (subst (λ (l : Lists). NonePasses is_going l back) is.plays.client.lists c.loop-back.invariant) c.in-Some.number
     (c.in-Some.ensures ∙ ap number_if_going told))
@@ -26,10 +26,10 @@ loop-back-preserved c =
     let back = c.loop-back.back in
     let same : c.notes-notes.result.now.lists ≡ lists = ap (λ (notes : NotesState). notes.lists) c.notes-notes.ensures in
     let count : c.tasks.result ≡ task_count lists = c.tasks.ensures.count ∙ ap task_count same in
+    let task : c.new-task.result ≡ task_count lists - back = c.new-task.ensures ∙ ap (λ (n : ℕ). n - back) count in
     let end : c.tasks-back-end.result ≡ task_count lists = c.tasks-back-end.ensures.count ∙ ap task_count same in
     let told : c.noted_task.result ≡ noted_at lists (task_count lists - back) =
-    c.noted_task.ensures ∙ ap (λ (l : Lists). noted_at l (c.tasks.result - back)) same
-    ∙ ap (λ (n : ℕ). noted_at lists (n - back)) count in
+    c.noted_task.ensures ∙ ap (λ (l : Lists). noted_at l c.new-task.result) same ∙ ap (noted_at lists) task in
     going-more lists back (omega (arith, c.loop-back-test.true, end)) c.loop-back.invariant
     (c.in_default.ensures ∙ ap number_if_going told)
 

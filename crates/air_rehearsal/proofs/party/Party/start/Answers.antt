@@ -10,8 +10,8 @@ start_task-requires-clause-some g c =
     let some = decimal_nonempty c.args.upload (omega (arith, c.ranges.upload.fits)) in
     search (rules, arith, decimal_nonempty)
 
-pub returns-in-Ok-Fresh-clause-touches : goal.returns-in-Ok-Fresh-clause-touches
-returns-in-Ok-Fresh-clause-touches g c = λ seat whole at_seat asked.
+pub returns-in-Fresh-clause-touches : goal.returns-in-Fresh-clause-touches
+returns-in-Fresh-clause-touches g c = λ seat whole at_seat asked.
     let names : Names c.args.self.now.client seat c.format.result.now c.args.upload (length c.args.file.now)
     c.sum_of-digest.result c.args.file.now =
     record {
@@ -22,23 +22,23 @@ returns-in-Ok-Fresh-clause-touches g c = λ seat whole at_seat asked.
     } in
     let started =
     started_by g.D.Disk g.met.D.Disk.lasts_same c.args.self.now seat at_seat c.args.upload c.args.file.now whole asked
-    c.start_task.new.self c.args.disk.now c.start_task.new.disk (Ok c.in-Ok-Fresh.field-0)
-    c.format.result.now (length c.args.file.now) c.sum_of-digest.result names c.in-Ok-Fresh.ensures.untouched
-    c.in-Ok-Fresh.ensures.does in
+    c.start_task.new.self c.args.disk.now c.start_task.new.disk (Ok c.in-Ok.begun)
+    c.format.result.now (length c.args.file.now) c.sum_of-digest.result names c.in-Ok.ensures.untouched
+    c.in-Ok.ensures.does in
     let fresh =
     subst
     (λ (b : Begun). Started g.D.Disk g.met.D.Disk.lasts_same c.args.self.now seat at_seat c.args.upload
     c.args.file.now whole asked c.start_task.new.self c.args.disk.now c.start_task.new.disk (Ok b))
-    c.in-Ok-Fresh.field-0-is started in
+    c.in-Fresh.is started in
     record {
       lanes = lanes_asked c.args.self.now seat at_seat c.args.upload c.args.file.now whole asked;
       touches =
           fresh_touches g.D.Disk g.met.D.Disk.lasts_same c.args.self.now seat at_seat c.args.upload c.args.file.now
-          whole asked c.start_task.new.self c.args.disk.now c.start_task.new.disk c.in-Ok-Fresh.task fresh;
+          whole asked c.start_task.new.self c.args.disk.now c.start_task.new.disk c.in-Fresh.task fresh;
     }
 
-pub returns-in-Ok-Fresh-clause-starts : goal.returns-in-Ok-Fresh-clause-starts
-returns-in-Ok-Fresh-clause-starts g c = λ seat whole at_seat asked.
+pub returns-in-Fresh-clause-starts : goal.returns-in-Fresh-clause-starts
+returns-in-Fresh-clause-starts g c = λ seat whole at_seat asked.
     let names : Names c.args.self.now.client seat c.format.result.now c.args.upload (length c.args.file.now)
     c.sum_of-digest.result c.args.file.now =
     record {
@@ -49,25 +49,25 @@ returns-in-Ok-Fresh-clause-starts g c = λ seat whole at_seat asked.
     } in
     let started =
     started_by g.D.Disk g.met.D.Disk.lasts_same c.args.self.now seat at_seat c.args.upload c.args.file.now whole asked
-    c.start_task.new.self c.args.disk.now c.start_task.new.disk (Ok c.in-Ok-Fresh.field-0)
-    c.format.result.now (length c.args.file.now) c.sum_of-digest.result names c.in-Ok-Fresh.ensures.untouched
-    c.in-Ok-Fresh.ensures.does in
+    c.start_task.new.self c.args.disk.now c.start_task.new.disk (Ok c.in-Ok.begun)
+    c.format.result.now (length c.args.file.now) c.sum_of-digest.result names c.in-Ok.ensures.untouched
+    c.in-Ok.ensures.does in
     let fresh =
     subst
     (λ (b : Begun). Started g.D.Disk g.met.D.Disk.lasts_same c.args.self.now seat at_seat c.args.upload
     c.args.file.now whole asked c.start_task.new.self c.args.disk.now c.start_task.new.disk (Ok b))
-    c.in-Ok-Fresh.field-0-is started in
+    c.in-Fresh.is started in
     let wanted =
     wants_fresh c.args.self.now seat at_seat c.args.upload c.args.file.now whole asked
     (omega (arith, c.ranges.upload.fits)) c.format.result.now (length c.args.file.now) c.sum_of-digest.result names in
     let answers =
-    subst (λ (b : Begun). StartsBy c.args.self.now.client.notes (Ok None) (Ok b)) c.in-Ok-Fresh.field-0-is
+    subst (λ (b : Begun). StartsBy c.args.self.now.client.notes (Ok None) (Ok b)) c.in-Fresh.is
     (subst
     (λ (answer : Result (Option Begun) NotesRefusal). StartsBy c.args.self.now.client.notes answer
-    (Ok c.in-Ok-Fresh.field-0)) wanted c.in-Ok-Fresh.ensures.answers) in
+    (Ok c.in-Ok.begun)) wanted c.in-Ok.ensures.answers) in
     fresh_starts g.D.Disk g.met.D.Disk.lasts_same c.args.self.now seat at_seat c.args.upload c.args.file.now whole
-    asked c.start_task.new.self c.args.disk.now c.start_task.new.disk c.in-Ok-Fresh.task fresh answers
-    c.in-Ok-Fresh.ensures.starts (record c.args.self.now { client = c.start_task.new.self }) refl refl
+    asked c.start_task.new.self c.args.disk.now c.start_task.new.disk c.in-Fresh.task fresh answers
+    c.in-Ok.ensures.starts (record c.args.self.now { client = c.start_task.new.self }) refl refl
 
 pub returns-in-Err-Disk-clause-touches : goal.returns-in-Err-Disk-clause-touches
 returns-in-Err-Disk-clause-touches g c = λ seat whole at_seat asked.

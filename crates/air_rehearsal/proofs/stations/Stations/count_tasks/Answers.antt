@@ -20,5 +20,7 @@ loop-before-preserved g c = record {
       let more = map-range_with_len_more of 1 before (before + 1) (omega arith) in
       subst (λ (tasks : List ClientTask). CountsAcked tasks c.args.report.now c.count_task.new.report) (sym more)
       (counts-append (map of (range_with_len 1 before)) (of (before + 1) ∷ []) c.args.report.now c.loop-before.report
-      c.count_task.new.report (c.loop-before.invariant.counts seat at) (c.in_ok-count_task.ensures.counts seat here));
+      c.count_task.new.report (c.loop-before.invariant.counts seat at)
+      (subst (λ (task : ℕ). CountsAcked (of task ∷ []) c.loop-before.report c.count_task.new.report) c.new.ensures
+      (c.in_ok-count_task.ensures.counts seat here)));
 }

@@ -8,7 +8,7 @@ pub returns-in-Some-2 : goal.returns-in-Some-2
 returns-in-Some-2 c =
     if_ok c.part_at.result _ _ c.part_at.ensures
     (λ it is.
-    resume_comes c.args.self.now c.args.client it.0 c.in-Some-last_going.task c.in-Some-last_going.number
+    resume_comes c.args.self.now c.args.client it.0 c.in-Some-last_going.going.0 c.in-Some-last_going.going.1
     c.in-Some-2.file c.in-Some.party.now it.1 c.in-Some.ensures
     (λ seat at.
     subst (λ o. IsLastGoing seat.party.client.lists o) c.in-Some-last_going.is (c.last_going.ensures.last seat at))

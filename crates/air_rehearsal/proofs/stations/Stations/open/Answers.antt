@@ -12,9 +12,9 @@ returns-clause-opens g c =
       me_is = is;
       k_is = refl;
       no_cut = refl;
-      no_moment = refl;
+      no_moment = c.new-2.ensures;
       none_asked = c.new.ensures.items;
-      none_counted = c.new-2.ensures;
+      none_counted = c.new-3.ensures;
       clients =
           subst
           (λ (me : CallSign).

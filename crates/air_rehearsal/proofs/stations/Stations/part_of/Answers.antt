@@ -24,7 +24,8 @@ returns-in-AskDownload c =
     (sym c.in-AskDownload.is)
     (if_ok c.part_at-in-AskDownload.result _ _ c.part_at-in-AskDownload.ensures
     (λ it is.
-    download_comes c.args.self.now c.in-AskDownload.client it.0 c.in-AskDownload.number it.1 is.0 is.1))
+    download_comes c.args.self.now c.in-AskDownload.client it.0 c.in-AskDownload.number it.1 is.0
+    (is.1 ∙ ap part.Download c.new.ensures)))
 
 pub returns-in-Some : goal.returns-in-Some
 returns-in-Some c =

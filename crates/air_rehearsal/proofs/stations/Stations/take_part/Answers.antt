@@ -1,5 +1,5 @@
-use Rattle.std.proofs.Common.{refl, ap, ◌∙◌, subst, arith, Bool, Some, slice_index_or}
-use Rattle.air_rehearsal.proofs.Names.{cuts_by, outcome_by, Outcome, TellsThen, asked_more, cut_more, outcome_more, clients_of}
+use Rattle.std.proofs.Common.{refl, ap, ◌∙◌, subst, arith, Bool, Option, Some, slice_index_or}
+use Rattle.air_rehearsal.proofs.Names.{cuts_by, is_under_way, outcome_by, Outcome, TellsThen, asked_more, cut_more, outcome_more, clients_of}
 use Rattle.air_rehearsal.proofs.HalfwayClients.{may_leave}
 use Rattle.air_rehearsal.proofs.PlayParts.{counts_busy, counts_free, images_there, is_free_so, not_free_so, took_part}
 use Rattle.air_rehearsal.proofs.ReadyLemmas.{read_at, ready_after}
@@ -37,10 +37,10 @@ returns-then-not-was_free-clause-took g c =
     (subst (λ (b : Bool). TellsThen (cut_more b) c.count_asked.new.self c.count_cut.new.self) c.is_some.ensures
     c.count_cut.ensures)
     (λ seat next is_seat is_client.
-    counts_busy (outcome_by seat.party.client.attempt) (outcome_by next.attempt) c.count_cut.new.self
+    counts_busy (is_under_way seat.party.client.attempt) (outcome_by next.attempt) c.count_cut.new.self
     c.count_outcome.new.self
     (not_free_so c.is_free-was_free.result c.if-not-was_free.true (c.is_free-was_free.ensures.party seat is_seat))
-    (subst (λ (o : Outcome). TellsThen (outcome_more o) c.count_cut.new.self c.count_outcome.new.self)
+    (subst (λ (o : Option Outcome). TellsThen (outcome_more o) c.count_cut.new.self c.count_outcome.new.self)
     (c.outcome.ensures next is_client) c.count_outcome.ensures))
 
 pub returns-else-not-was_free-clause-clients : goal.returns-else-not-was_free-clause-clients
@@ -67,7 +67,7 @@ returns-else-not-was_free-clause-took g c =
     (subst (λ (b : Bool). TellsThen (cut_more b) c.count_asked.new.self c.count_cut.new.self) c.is_some.ensures
     c.count_cut.ensures)
     (λ seat next is_seat is_client.
-    counts_free (outcome_by seat.party.client.attempt) (outcome_by next.attempt) c.count_cut.new.self
+    counts_free (is_under_way seat.party.client.attempt) (outcome_by next.attempt) c.count_cut.new.self
     (is_free_so c.is_free-was_free.result c.if-not-was_free.false
     (c.is_free-was_free.ensures.party seat is_seat)))
 
