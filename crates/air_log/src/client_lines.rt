@@ -4,28 +4,39 @@ use crate::lines::Lines;
 use crate::meaning::meaning_of_code;
 use crate::transfer::{Transfer, Work};
 use ftl0_packets::{ErrorCode, Packet};
+use px_base::{FileNumber, Moment};
 use std::fmt::Write;
 
 /// Shows what the client asks for. How far an upload is the server's acknowledgements tell.
-pub(crate) fn show_sent(job: &mut Transfer, packet: &Packet<'_>, moment: u32, lines: &mut Lines) {
+pub(crate) fn show_sent(
+    job: &mut Transfer,
+    packet: &Packet<'_>,
+    moment: Moment,
+    lines: &mut Lines,
+) {
     match packet {
         Packet::UploadCmd { number, length } => {
-            *job = Transfer::new(Work::Upload, *number, *length);
+            *job = Transfer::new(Work::Upload, FileNumber::new(*number), *length);
         }
-        Packet::SelectCmd(_) => *job = Transfer::new(Work::List, 0, 0),
+        Packet::SelectCmd(_) => *job = Transfer::new(Work::List, FileNumber::new(0), 0),
         Packet::DownloadCmd { number, offset, .. } => {
-            *job = Transfer::new(Work::Download, *number, 0);
-            job.begin(*number, *offset, moment, lines);
+            *job = Transfer::new(Work::Download, FileNumber::new(*number), 0);
+            job.begin(FileNumber::new(*number), *offset, moment, lines);
         }
         _ => {}
     }
 }
 
 /// Shows what the server replies and sends. An outcome is shown as soon as it is there; the link ends behind it.
-pub(crate) fn show_got(job: &mut Transfer, packet: &Packet<'_>, moment: u32, lines: &mut Lines) {
-    let (number, work) = (job.number, job.work);
+pub(crate) fn show_got(job: &mut Transfer, packet: &Packet<'_>, moment: Moment, lines: &mut Lines) {
+    let (number, work) = (job.number.get(), job.work);
     match packet {
-        Packet::UlGoResp { number, offset } => return job.begin(*number, *offset, moment, lines),
+        Packet::UlGoResp { number, offset } => return job.begin(
+            FileNumber::new(*number),
+            *offset,
+            moment,
+            lines,
+        ),
         Packet::DataPart(octets) if work == Work::Download => {
             return job.pass(octets.len(), moment, lines);
         }

@@ -4,10 +4,10 @@ use crate::client_lines::{show_got, show_sent};
 use crate::lines::Lines;
 use crate::packet_stream::PacketStream;
 use crate::server_lines::{show_asked, show_said};
-use crate::transfer::{Transfer, Work};
+use crate::transfer::{Transfer, Work, seconds_between};
 use ax25_frames::{Frame, Kind};
 use ftl0_packets::Packet;
-use px_base::Call;
+use px_base::{Call, FileNumber, Moment};
 use std::fmt::Write;
 
 /// After how many commands with P = 1 that nothing answered a link that is up goes down (AX.25 2.0, N2), and how many
@@ -45,7 +45,7 @@ pub(crate) struct Link {
     wish: Wish,
     /// How many commands with P = 1 nothing answered, and when the last one was said.
     tries: u32,
-    tried: u32,
+    tried: Moment,
     heard: PacketStream,
     said: PacketStream,
     transfer: Transfer,
@@ -64,10 +64,10 @@ impl Link {
             up: false,
             wish: Wish::Nothing,
             tries: 0,
-            tried: 0,
+            tried: Moment::new(0),
             heard: PacketStream::new(),
             said: PacketStream::new(),
-            transfer: Transfer::new(Work::Nothing, 0, 0),
+            transfer: Transfer::new(Work::Nothing, FileNumber::new(0), 0),
             sent: [0; NUMBERS],
             unacknowledged: 0,
         }
@@ -90,7 +90,7 @@ impl Link {
     }
 
     /// Shows what a frame of the station tells, at this moment.
-    pub(crate) fn hear(&mut self, kind: &Kind<'_>, moment: u32, lines: &mut Lines) {
+    pub(crate) fn hear(&mut self, kind: &Kind<'_>, moment: Moment, lines: &mut Lines) {
         if let Some(nr) = acknowledged_by(kind) {
             self.acknowledge(nr, moment, lines);
         }
@@ -107,7 +107,7 @@ impl Link {
     }
 
     /// Shows what a frame of this end tells, at this moment.
-    pub(crate) fn say(&mut self, frame: &Frame<'_>, moment: u32, lines: &mut Lines) {
+    pub(crate) fn say(&mut self, frame: &Frame<'_>, moment: Moment, lines: &mut Lines) {
         if frame.command && frame.poll {
             self.tries = self.tries.saturating_add(1);
             self.tried = moment;
@@ -129,12 +129,12 @@ impl Link {
     }
 
     /// Shows that the link is down, where nothing answered for long enough at this moment.
-    pub(crate) fn wait(&mut self, moment: u32, lines: &mut Lines) {
+    pub(crate) fn wait(&mut self, moment: Moment, lines: &mut Lines) {
         let most = match self.wish {
             Wish::OurConnect | Wish::OurDisconnect => MOST_TRIES,
             _ => MOST_TRIES - 1,
         };
-        if self.tries > most && moment.saturating_sub(self.tried) > TRY_SECONDS {
+        if self.tries > most && seconds_between(self.tried, moment) > TRY_SECONDS {
             self.tries = 0;
             self.refuse("no answer", lines);
         }
@@ -163,7 +163,7 @@ impl Link {
         self.wish = Wish::Nothing;
         self.heard = PacketStream::new();
         self.said = PacketStream::new();
-        self.transfer = Transfer::new(Work::Nothing, 0, 0);
+        self.transfer = Transfer::new(Work::Nothing, FileNumber::new(0), 0);
         self.sent = [0; NUMBERS];
         self.unacknowledged = 0;
         if !self.client {
@@ -185,7 +185,7 @@ impl Link {
     }
 
     /// Shows how far a transfer is, where the I frames before this N(R) are acknowledged (AX.25 2.0, 2.4.4).
-    fn acknowledge(&mut self, nr: u8, moment: u32, lines: &mut Lines) {
+    fn acknowledge(&mut self, nr: u8, moment: Moment, lines: &mut Lines) {
         let mut octets = 0_usize;
         for _ in 0..NUMBERS {
             if self.unacknowledged == nr {
@@ -202,7 +202,7 @@ impl Link {
     }
 
     /// Shows the packets that end in the octets of an I frame, which was heard or said.
-    fn pass(&mut self, heard: bool, ns: u8, octets: &[u8], moment: u32, lines: &mut Lines) {
+    fn pass(&mut self, heard: bool, ns: u8, octets: &[u8], moment: Moment, lines: &mut Lines) {
         let (up, client, peer) = (self.up, self.client, self.peer);
         let mut transfer = self.transfer;
         let mut sent = 0_usize;

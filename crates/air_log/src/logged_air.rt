@@ -6,7 +6,7 @@ ghost use Rattle.px_base.specs.Polling.{Hears, IsPolled, turn_of};
 
 use crate::lines::Lines;
 use crate::watcher::Watcher;
-use px_base::{Air, AirDown, Clock, Out, Polled};
+use px_base::{Air, AirDown, Clock, Moment, Out, Polled};
 use std::marker::Model;
 
 /// An air that is the one that it wraps, and shows on an output what passes. Contracts see it as that air, so each of
@@ -117,7 +117,7 @@ fn watch(
     watcher: &mut Option<Watcher<'_>>,
     heard: bool,
     octets: &[u8],
-    moment: u32,
+    moment: Moment,
     lines: &mut Lines,
 ) {
     match watcher {

@@ -4,17 +4,17 @@ use crate::lines::Lines;
 use crate::meaning::meaning_of_code;
 use crate::transfer::{Transfer, Work};
 use ftl0_packets::{ErrorCode, Packet};
-use px_base::Call;
+use px_base::{Call, FileNumber};
 use std::fmt::Write;
 
 /// Shows what a caller asks for. Number 0 is the next file of its selection.
 pub(crate) fn show_asked(job: &mut Transfer, caller: Call, packet: &Packet<'_>, lines: &mut Lines) {
     match packet {
         Packet::UploadCmd { number, length } => {
-            *job = Transfer::new(Work::Upload, *number, *length);
+            *job = Transfer::new(Work::Upload, FileNumber::new(*number), *length);
         }
         Packet::DownloadCmd { number, offset, .. } => {
-            *job = Transfer::new(Work::Download, *number, 0);
+            *job = Transfer::new(Work::Download, FileNumber::new(*number), 0);
             let _ = write!(lines.line, "{caller} download {number}");
             if *offset > 0 {
                 let _ = write!(lines.line, ", from {offset}");
@@ -29,7 +29,7 @@ pub(crate) fn show_asked(job: &mut Transfer, caller: Call, packet: &Packet<'_>, 
 pub(crate) fn show_said(job: &mut Transfer, caller: Call, packet: &Packet<'_>, lines: &mut Lines) {
     match packet {
         Packet::UlGoResp { number, offset } => {
-            job.number = *number;
+            job.number = FileNumber::new(*number);
             let length = job.length;
             let _ = write!(
                 lines.line,
@@ -37,7 +37,7 @@ pub(crate) fn show_said(job: &mut Transfer, caller: Call, packet: &Packet<'_>, l
             );
         }
         Packet::UlAckResp => {
-            let _ = write!(lines.line, "{caller} {} kept", job.number);
+            let _ = write!(lines.line, "{caller} {} kept", job.number.get());
         }
         Packet::DlCompletedResp => {
             let _ = write!(lines.line, "{caller} download done");

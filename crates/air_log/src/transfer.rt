@@ -1,6 +1,7 @@
 //! How far a transfer is.
 
 use crate::lines::Lines;
+use px_base::{FileNumber, Moment};
 use std::fmt::Write;
 
 /// Seconds between two lines of progress, where a line can't be written over.
@@ -19,40 +20,46 @@ pub(crate) enum Work {
     List,
 }
 
-/// The transfer of a link, as far as packets told it: octets, and moments in seconds since 1 January 1970.
+/// The transfer of a link, as far as packets told it, in octets.
 #[derive(Clone, Copy)]
 pub(crate) struct Transfer {
     /// What is under way.
     pub(crate) work: Work,
     /// The file's number.
-    pub(crate) number: u32,
+    pub(crate) number: FileNumber,
     /// The file's length, or 0 where it isn't known.
     pub(crate) length: u32,
     /// How many octets have passed.
     place: u32,
     /// How many had passed when it began, and when that was.
     from: u32,
-    began: u32,
+    began: Moment,
     /// When progress was shown last.
-    shown: u32,
+    shown: Moment,
 }
 
 impl Transfer {
     /// A job of a file of this number, and of this length where that isn't 0.
-    pub(crate) fn new(work: Work, number: u32, length: u32) -> Transfer {
+    pub(crate) fn new(work: Work, number: FileNumber, length: u32) -> Transfer {
         Transfer {
             work,
             number,
             length,
             place: 0,
             from: 0,
-            began: 0,
-            shown: 0,
+            began: Moment::new(0),
+            shown: Moment::new(0),
         }
     }
 
     /// Shows that the octets of the file come from this place on, at this moment.
-    pub(crate) fn begin(&mut self, number: u32, from: u32, moment: u32, lines: &mut Lines) {
+    pub(crate) fn begin(
+        &mut self,
+        number: FileNumber,
+        from: u32,
+        moment: Moment,
+        lines: &mut Lines,
+    ) {
         self.number = number;
         self.place = from;
         self.from = from;
@@ -63,27 +70,27 @@ impl Transfer {
         } else {
             "download"
         };
-        let _ = write!(lines.line, "{word} {number} from {from}");
+        let _ = write!(lines.line, "{word} {} from {from}", number.get());
         self.end_with_length(lines);
         lines.end(false);
     }
 
     /// So many octets passed at this moment, which is shown from time to time.
-    pub(crate) fn pass(&mut self, octets: usize, moment: u32, lines: &mut Lines) {
+    pub(crate) fn pass(&mut self, octets: usize, moment: Moment, lines: &mut Lines) {
         let octets = u32::try_from(octets).unwrap_or(0);
         self.place = self.place.saturating_add(octets);
         let seconds = if lines.terminal { 1 } else { PROGRESS_SECONDS };
-        if moment.saturating_sub(self.shown) >= seconds {
+        if seconds_between(self.shown, moment) >= seconds {
             self.shown = moment;
             self.show(moment, lines);
         }
     }
 
     /// Shows the place, the octets a second since it began, and the time that is left where the length is known.
-    fn show(&self, moment: u32, lines: &mut Lines) {
+    fn show(&self, moment: Moment, lines: &mut Lines) {
         let place = self.place;
         let passed = place.saturating_sub(self.from);
-        let rate = passed / moment.saturating_sub(self.began).max(1);
+        let rate = passed / seconds_between(self.began, moment).max(1);
         let _ = write!(lines.line, "{place}");
         self.end_with_length(lines);
         let _ = write!(lines.line, " octets, {rate} octets/s");
@@ -101,4 +108,9 @@ impl Transfer {
             let _ = write!(lines.line, " of {}", self.length);
         }
     }
+}
+
+/// The seconds from a moment to a later one, or none where it isn't later.
+pub(crate) fn seconds_between(from: Moment, to: Moment) -> u32 {
+    to.get().saturating_sub(from.get())
 }

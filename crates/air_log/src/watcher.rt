@@ -9,7 +9,7 @@ use arrayvec::ArrayVec;
 use ax25_frames::{Frame, Kind, read_frame};
 use header_tool::frames::show_frames;
 use kiss::{KissFed, KissReader, write_frame};
-use px_base::Call;
+use px_base::{Call, Moment};
 use std::array;
 use std::fmt::Write;
 
@@ -53,9 +53,9 @@ impl<'a> Watcher<'a> {
         }
     }
 
-    /// A poll is made at this moment, in seconds since 1 January 1970: adds that the server is ready, once, and which
-    /// stations are gone since they don't answer.
-    pub fn polls(&mut self, moment: u32, lines: &mut Lines) {
+    /// A poll is made at this moment: adds that the server is ready, once, and which stations are gone since they don't
+    /// answer.
+    pub fn polls(&mut self, moment: Moment, lines: &mut Lines) {
         if let Some(store) = self.store.take() {
             let _ = write!(lines.line, "ready {} store {store}", self.me);
             lines.end(false);
@@ -64,7 +64,7 @@ impl<'a> Watcher<'a> {
     }
 
     /// Adds the lines of what these octets tell, which were heard at this moment.
-    pub fn heard(&mut self, octets: &[u8], moment: u32, lines: &mut Lines) {
+    pub fn heard(&mut self, octets: &[u8], moment: Moment, lines: &mut Lines) {
         for &octet in octets {
             let fed = self.heard.feed(octet);
             if fed != KissFed::More {
@@ -74,7 +74,7 @@ impl<'a> Watcher<'a> {
     }
 
     /// Adds the lines of what these octets tell, which were said at this moment.
-    pub fn said(&mut self, octets: &[u8], moment: u32, lines: &mut Lines) {
+    pub fn said(&mut self, octets: &[u8], moment: Moment, lines: &mut Lines) {
         for &octet in octets {
             let fed = self.said.feed(octet);
             if fed != KissFed::More {
@@ -84,7 +84,7 @@ impl<'a> Watcher<'a> {
     }
 
     /// Adds the lines of a part that was heard.
-    fn hear_part(&mut self, fed: KissFed, moment: u32, lines: &mut Lines)
+    fn hear_part(&mut self, fed: KissFed, moment: Moment, lines: &mut Lines)
         requires { fed ≡ KissFed.Frame → IsSome self.old.heard.frame }
     {
         if self.level == Level::Frames {
@@ -105,7 +105,7 @@ impl<'a> Watcher<'a> {
     }
 
     /// Adds the lines of a part that was said.
-    fn say_part(&mut self, fed: KissFed, moment: u32, lines: &mut Lines)
+    fn say_part(&mut self, fed: KissFed, moment: Moment, lines: &mut Lines)
         requires { fed ≡ KissFed.Frame → IsSome self.old.said.frame }
     {
         if self.level == Level::Frames {
@@ -125,7 +125,7 @@ impl<'a> Watcher<'a> {
 }
 
 /// Adds at this moment which stations are gone since they don't answer.
-fn wait_all(links: &mut [Link], moment: u32, lines: &mut Lines) {
+fn wait_all(links: &mut [Link], moment: Moment, lines: &mut Lines) {
     for i in 0..links.len() {
         let link = &mut links[i];
         link.wait(moment, lines);

@@ -156,7 +156,7 @@ is_carried stop.LinkDown = true
 is_carried (stop.Strange kind) = true
 is_carried why = false
 
-pub node-carried : (polls : ℕ) (turns : List Turn) (ended : Result Finished NodeStop) (reached : Outcome) (why : SendStop) → TurnsBy ended polls turns → answer_of ended reached ≡ Err why → is_carried why ≡ true
+pub node-carried : (polls : ℕ) (turns : List Turn) (ended : Result Finished NodeStop) (reached : Option Outcome) (why : SendStop) → TurnsBy ended polls turns → answer_of ended reached ≡ Err why → is_carried why ≡ true
 node-carried polls turns ended reached why ends e =
     of_answer (λ s. is_carried s ≡ true) (λ code. refl) (λ code. refl) refl (λ kind. refl) ended (of_turns (λ s. is_carried s ≡ true) refl refl refl refl refl refl ended polls turns ends) reached why e
 
@@ -242,7 +242,7 @@ module _ (reads reads_now writes writes_now : ℕ) where
   }
 
   -- what became of the job, behind which the air may have failed; or the turns' stop
-  pub air-carried : (ended : Result Finished NodeStop) (reached : Outcome) → CountsWhere reads reads_now (IsErrOf ended node.AirRead) → CountsWhere writes writes_now (IsErrOf ended node.AirWrite)
+  pub air-carried : (ended : Result Finished NodeStop) (reached : Option Outcome) → CountsWhere reads reads_now (IsErrOf ended node.AirRead) → CountsWhere writes writes_now (IsErrOf ended node.AirWrite)
       → AirBy reads reads_now writes writes_now (answer_of ended reached)
   air-carried ended reached h k = record {
     rose_read = λ e. h.rose (turned ended reached node.AirRead e);

@@ -1,10 +1,10 @@
 -- The status of `fetch` and of `list`, exactly.
-use Rattle.std.proofs.Common.{◌≡◌, ℕ, List, [], refl, ap, sym, subst, ◌∙◌, inl, inr}
+use Rattle.std.proofs.Common.{◌≡◌, ℕ, List, [], Some, refl, ap, sym, subst, ◌∙◌, inl, inr}
 use Rattle.px_base.specs.declared.out.Out.{Ghosts as OutGhosts}
 use Rattle.px_base.specs.declared.shelf.Shelf.{Ghosts as ShelfGhosts}
 use Rattle.uploader.specs.StoreFault.{StoreFault}
 use Rattle.ftl0_client.specs.Table.{JobState}
-use Rattle.ftl0_client.specs.declared.outcome.Outcome.TheVariants as outcome
+use Rattle.ftl0_client.specs.Outcome.TheVariants as outcome
 use Rattle.uploader.specs.Stops.{stop_of_fault}
 use Rattle.pacsat_cli.specs.declared.status.Status.TheVariants as status
 use Rattle.pacsat_cli.proofs.Names.{err_from_is_err_and, Contains, Option, IfOk, Result, Ok, Err, IsErrAnd, ⊤, Holding, Ghosts, OneRunLaw, Lent, Seen, Lists, StaysLaw, OneStepLaw, Outcome, SendStop, ClientTerms, Carries, IsUnrecovered, RecoversTo, asked_of, KeepsBy, file_asked, ComesBy, IsLedTo, ShowsBy, files_asked, led-law, told_recovered, told_refused, Status, FetchRan, ListRan, RunsFetch, RunsList, client_terms, outside, FetchEndsExactly, FetchLed, IsCause, IsNoFault, IsWanted, ListEndsExactly, ListLed, NotesTold, status_of_stop}
@@ -39,8 +39,8 @@ keeps-as held shelf shelf_now name octets number came ended P h f = record {
 }
   where
     some : (c : Result Outcome SendStop) → IfOk c (λ reached. (reached ≡ outcome.Fetched number) × P reached) → KeepsBy held shelf shelf_now name octets c ended → (value : ⊤) → ended ≡ Ok value
-        → (reached : Outcome) × (c ≡ Ok reached) × IsWanted reached
-    some (Ok reached) is k value e = (reached, refl, subst (λ (r : Outcome). IsWanted r) (sym is.0) tt)
+        → (reached : Outcome) × (c ≡ Ok reached) × IsWanted (Some reached)
+    some (Ok reached) is k value e = (reached, refl, subst (λ (r : Outcome). IsWanted (Some r)) (sym is.0) tt)
     some (Err other) is k value e = absurd (let both = sym k.0 ∙ e in cc)
 
 shows-as : {O : Type 0} (shown : O → Option (List ℕ)) (out out_now : O) (listing : List ℕ) (came : Result Outcome SendStop) (ended : Result ⊤ SendStop) (P : Outcome → Type 0)
@@ -51,8 +51,8 @@ shows-as shown out out_now listing came ended P h f = record {
 }
   where
     some : (c : Result Outcome SendStop) → IfOk c (λ reached. (reached ≡ outcome.Listed) × P reached) → ShowsBy shown out out_now listing c ended → (value : ⊤) → ended ≡ Ok value
-        → (reached : Outcome) × (c ≡ Ok reached) × IsWanted reached
-    some (Ok reached) is k value e = (reached, refl, subst (λ (r : Outcome). IsWanted r) (sym is.0) tt)
+        → (reached : Outcome) × (c ≡ Ok reached) × IsWanted (Some reached)
+    some (Ok reached) is k value e = (reached, refl, subst (λ (r : Outcome). IsWanted (Some r)) (sym is.0) tt)
     some (Err other) is k value e = absurd (let both = sym k.0 ∙ e in cc)
 
 -- ---- the two commands
@@ -60,7 +60,7 @@ shows-as shown out out_now listing came ended P h f = record {
 module _ {A C D : Type 0} (see : Seen D A C) (runs : OneRunLaw) (steps : OneStepLaw) (stays : StaysLaw) (old new : Lent D A C) where
   -- a job of a client over the notes that are told
   job-comes : (terms : ClientTerms) (first start : Lists) (job : JobState) (came : Result Outcome SendStop) (h : Carries see old new (asked_of terms first [] job) came) → NotesTold see.disk old.disk start
-      → (led : (t : _) × (r : Outcome) × IsLedTo see old new (asked_of terms start [] job) t r) → ComesBy terms.polls led.0 led.1 came
+      → (led : (t : _) × (r : Option Outcome) × IsLedTo see old new (asked_of terms start [] job) t r) → ComesBy terms.polls led.0 led.1 came
   job-comes terms first start job came h notes led =
       let same : first ≡ start = recovered-start see.disk old.disk h.recovered first start h.recovers notes in
       led-law see runs steps stays old new (asked_of terms first [] job) came led.0 led.1 h

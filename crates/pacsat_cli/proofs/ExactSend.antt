@@ -7,7 +7,7 @@ use Rattle.file_store.proofs.Offered.{told_weaker}
 use Rattle.uploader.specs.Answers.{IsFull}
 use Rattle.uploader.specs.Begun.TheVariants as begun
 use Rattle.uploader.specs.NotesRefusal.TheVariants as refusal
-use Rattle.ftl0_client.specs.declared.outcome.Outcome.TheVariants as outcome
+use Rattle.ftl0_client.specs.Outcome.TheVariants as outcome
 use Rattle.uploader.specs.declared.stop.SendStop.TheVariants as stop
 use Rattle.command_words.specs.declared.terms.ClientTerms.{ClientTerms as AskedTerms}
 use Rattle.pacsat_cli.specs.declared.status.Status.TheVariants as status

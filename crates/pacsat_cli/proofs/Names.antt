@@ -18,7 +18,7 @@ pub use Rattle.file_store.specs.StoreFault.{StoreFault}
 pub use Rattle.file_store.specs.Working.{CountsSome, PutsAmongReads}
 pub use Rattle.ftl0_client.specs.Going.{StaysLaw}
 pub use Rattle.ftl0_client.specs.Laws.{OneStepLaw}
-pub use Rattle.ftl0_client.specs.declared.outcome.Outcome.{Outcome}
+pub use Rattle.ftl0_client.specs.Outcome.{Outcome}
 pub use Rattle.header_tool.specs.Faults.{fault_code}
 pub use Rattle.header_tool.specs.Made.{IsMade, IsRefused, MakeValue, made_builder, make_refusal, make_value, or_long}
 pub use Rattle.node.specs.Laws.{OneRunLaw}

@@ -16,8 +16,8 @@ use Rattle.uploader.specs.Notes.{Lists}
 use Rattle.uploader.specs.State.{standing_of as notes_standing}
 use Rattle.uploader.specs.Begun.TheVariants as begun
 use Rattle.uploader.specs.NotesRefusal.TheVariants as refusal
-use Rattle.ftl0_client.specs.declared.outcome.Outcome.{Outcome}
-use Rattle.ftl0_client.specs.declared.outcome.Outcome.TheVariants as outcome
+use Rattle.ftl0_client.specs.Outcome.{Outcome}
+use Rattle.ftl0_client.specs.Outcome.TheVariants as outcome
 use Rattle.uploader.specs.declared.sum.FileSum.{FileSum}
 use Rattle.uploader.specs.declared.terms.ClientTerms.{ClientTerms}
 use Rattle.uploader.specs.Carried.{asked_of}
@@ -46,30 +46,30 @@ ComesExactly Cause status = IsNoFault status → (other : Status) → (status �
 -- ---- the causes of a command that came to its job
 
 -- what a command asks for: a file is acknowledged, or fetched, or the list came
-abbrev pub IsWanted : Outcome → Type 0
-IsWanted (outcome.Acked number) = ⊤
-IsWanted (outcome.Fetched number) = ⊤
-IsWanted outcome.Listed = ⊤
+abbrev pub IsWanted : Option Outcome → Type 0
+IsWanted (Some (outcome.Acked number)) = ⊤
+IsWanted (Some (outcome.Fetched number)) = ⊤
+IsWanted (Some outcome.Listed) = ⊤
 IsWanted reached = ⊥
 
 -- The client's link closed before an outcome, or the end of the air was read before one.
-abbrev pub IsLinkDown : List Turn → Outcome → Type 0
-IsLinkDown turns (outcome.LinkDown why) = ⊤
-IsLinkDown turns outcome.Working = EndsWith turns turn.End
+abbrev pub IsLinkDown : List Turn → Option Outcome → Type 0
+IsLinkDown turns (Some (outcome.LinkDown why)) = ⊤
+IsLinkDown turns None = EndsWith turns turn.End
 IsLinkDown turns reached = ⊥
 
 -- The cause of each status, by these turns, of which there are at most so many, and by what the definition makes of the job
 -- over them. The last one, where nothing became of it: a poll failed; or all polls were made, and none was the end or
 -- failed. What has no line here doesn't come.
-abbrev pub IsCause : ℕ → List Turn → Outcome → Status → Type 0
+abbrev pub IsCause : ℕ → List Turn → Option Outcome → Status → Type 0
 IsCause polls turns reached Done = IsWanted reached
-IsCause polls turns reached (Refused (Server code)) = reached ≡ outcome.Refused code
-IsCause polls turns reached (Refused (Fault code)) = reached ≡ outcome.BadFile code
-IsCause polls turns reached (Strange kind) = reached ≡ outcome.Strange kind
+IsCause polls turns reached (Refused (Server code)) = reached ≡ Some (outcome.Refused code)
+IsCause polls turns reached (Refused (Fault code)) = reached ≡ Some (outcome.BadFile code)
+IsCause polls turns reached (Strange kind) = reached ≡ Some (outcome.Strange kind)
 IsCause polls turns reached LinkDown = IsLinkDown turns reached
-IsCause polls turns reached AirRead = (reached ≡ outcome.Working) × EndsWith turns turn.Fail
+IsCause polls turns reached AirRead = (reached ≡ None) × EndsWith turns turn.Fail
 IsCause polls turns reached Spent =
-    (reached ≡ outcome.Working) × (length turns ≡ polls) × AllByRecursion IsOpen turns
+    (reached ≡ None) × (length turns ≡ polls) × AllByRecursion IsOpen turns
 IsCause polls turns reached status = ⊥
 
 -- ---- what is told
@@ -104,7 +104,7 @@ pub record UploadLed {A C D S : Type 0} (words : List (List ℕ)) (see : Seen D 
   pub first : List NotesCommand
   pub task_for : IsTaskFor (client_terms of.asked) of.start of.name (sum_of of.file) task number first
   pub turns : List Turn
-  pub reached : Outcome
+  pub reached : Option Outcome
   pub led :
       IsLedTo see old new (asked_of (client_terms of.asked) of.start first (upload_of task number of.file)) turns
       reached
@@ -119,7 +119,7 @@ pub record FetchLed {A C D : Type 0} (words : List (List ℕ)) (see : Seen D A C
   pub start : Lists
   pub notes : NotesTold see.disk old.disk start
   pub turns : List Turn
-  pub reached : Outcome
+  pub reached : Option Outcome
   pub led :
       IsLedTo see old new
       (asked_of (client_terms asked) start [] (download_of (file_asked (client_terms asked) number name))) turns reached
@@ -132,7 +132,7 @@ pub record ListLed {A C D : Type 0} (words : List (List ℕ)) (see : Seen D A C)
   pub start : Lists
   pub notes : NotesTold see.disk old.disk start
   pub turns : List Turn
-  pub reached : Outcome
+  pub reached : Option Outcome
   pub led :
       IsLedTo see old new (asked_of (client_terms asked) start [] (directory_of tokens)) turns reached
 

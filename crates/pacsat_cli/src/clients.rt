@@ -13,7 +13,7 @@ use command_words::{
     ClientRequest, ClientTerms as AskedTerms, FetchRequest, ListRequest, SendRequest,
 };
 use disk_model::Disk;
-use px_base::{Air, Clock, Out, Shelf};
+use px_base::{Air, Clock, FileNumber, Out, Shelf};
 use std::alloc::Global;
 use uploader::{ClientTerms, SendStop, fetch, list, send};
 
@@ -77,17 +77,9 @@ fn run_fetch<D: Disk, A: Air, S: Shelf, O: Out, C: Clock>(
         (outside (lent disk.new air.new clock.new) shelf.new out.new) request.now result }
 {
     let terms = terms_of(&request.terms);
-    match fetch(
-        alloc,
-        disk,
-        air,
-        shelf,
-        clock,
-        &terms,
-        request.number,
-        request.name,
-    ) {
-        Ok(()) => show_numbered("fetched ", request.number, out),
+    let number = FileNumber::new(request.number);
+    match fetch(alloc, disk, air, shelf, clock, &terms, number, request.name) {
+        Ok(()) => show_numbered("fetched ", number, out),
         Err(why) => status_of_stop(why),
     }
 }
@@ -127,12 +119,13 @@ fn terms_of(asked: &AskedTerms) -> ClientTerms
     }
 }
 
-/// Shows the line of these words and a number, by one put; the status that a command has which is done with that.
-fn show_numbered<O: Out>(words: &str, number: u32, out: &mut O) -> Status
+/// Shows the line of these words and a file's number, by one put; the status that a command has which is done with
+/// that.
+fn show_numbered<O: Out>(words: &str, number: FileNumber, out: &mut O) -> Status
     requires { length words.now ≤ 20 }
     ensures { PutsLine O.Out (numbered_line words.now number) out.old out.new result }
 {
-    match out.put(numbered(words, u64::from(number)).as_slice()) {
+    match out.put(numbered(words, u64::from(number.get())).as_slice()) {
         Ok(()) => Status::Done,
         Err(_down) => Status::Out,
     }

@@ -12,7 +12,7 @@ use command_words::{DiskWord, ServeRequest, SessionRequest};
 use disk_model::{Disk, MemoryDisk};
 use file_store::Limits;
 use node::NodeStop;
-use px_base::{Air, Clock};
+use px_base::{Air, Clock, Moment};
 use server_node::{Served, ServerTerms, SessionTerms, serve, session};
 use std::alloc::Global;
 
@@ -84,7 +84,7 @@ fn terms_of(request: &SessionRequest) -> SessionTerms
 {
     SessionTerms {
         caller: request.caller,
-        moment: request.moment,
+        moment: request.moment.map(Moment::new),
         limits: Limits {
             blocks: request.blocks,
         },

@@ -4,6 +4,7 @@
 use anyhow::Result;
 use disk_model::MemoryDisk;
 use file_store::{FileStore, Limits};
+use px_base::FileNumber;
 use row_words::{Player, push_shown, read_octets, text_of};
 use std::alloc::Global;
 
@@ -32,7 +33,7 @@ fn recovered(alloc: Global, row: &str) -> Result<String> {
 fn shown(alloc: Global, store: &FileStore) -> Result<String> {
     let mut text = String::from_str(alloc, "store")?;
     for number in 1..4u32 {
-        if let Some(info) = store.info(number) {
+        if let Some(info) = store.info(FileNumber::new(number)) {
             let end = if info.complete {
                 "complete"
             } else {

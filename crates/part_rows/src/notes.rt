@@ -14,6 +14,7 @@
 //! Calls are parted by `;`. Each is the name of a call of `Notes`, and its parameters in their order; but `numbered`,
 //! `acked` and `refused` have a server, a caller and a name in place of the task, which is their last one.
 
+mod answers;
 mod calls;
 mod row;
 mod stop;

@@ -11,7 +11,7 @@ ghost use Rattle.file_store.specs.Upload.{Holds};
 use anyhow::Result;
 use disk_model::{Disk, MemoryDisk};
 use file_store::{AppendRefusal, BeginRefusal, FileStore, Info, Limits, OpenUpload, SealRefusal};
-use px_base::Call;
+use px_base::{Call, FileNumber, Moment};
 use row_words::{Player, read_octets, text_of, two_parts};
 use std::alloc::Global;
 
@@ -44,7 +44,7 @@ fn uploaded<D: Disk>(alloc: Global, disk: &mut D, length: u32, octets: &[u8]) ->
 /// What the store of this disk tells of the first file.
 fn standing<D: Disk>(alloc: Global, disk: &mut D) -> Result<String> {
     let store = FileStore::recover(alloc, disk, LIMITS)?;
-    standing_text(alloc, store.info(1))
+    standing_text(alloc, store.info(FileNumber::new(1)))
 }
 
 /// What a store tells of a file.
@@ -52,7 +52,7 @@ fn standing_text(alloc: Global, info: Option<Info>) -> Result<String> {
     let Some(info) = info else {
         return text_of(alloc, "none");
     };
-    let (held, length, begun) = (info.held, info.length, info.begun);
+    let (held, length, begun) = (info.held, info.length, info.begun.get());
     let end = if info.complete {
         "complete"
     } else {
@@ -96,7 +96,7 @@ fn upload<D: Disk>(
 ) -> Ended
     requires { StandsOn D.Disk store.old disk.old }
 {
-    let up = match store.begin(disk, caller, file_length, 5) {
+    let up = match store.begin(disk, caller, file_length, Moment::new(5)) {
         Ok(up) => up,
         Err(refusal) => return Ended::NotBegun(refusal),
     };
@@ -116,9 +116,9 @@ fn end<D: Disk>(store: &mut FileStore, disk: &mut D, up: OpenUpload) -> Ended
     requires stands_on { StandsOn D.Disk store.old disk.old }
 {
     let told = told_of(store, &up);
-    match store.seal(disk, up, 6) {
+    match store.seal(disk, up, Moment::new(6)) {
         Ok(receipt) => {
-            let number = receipt.number();
+            let number = receipt.number().get();
             receipt.spend();
             Ended::Sealed(told, number)
         }
@@ -138,7 +138,7 @@ fn end<D: Disk>(store: &mut FileStore, disk: &mut D, up: OpenUpload) -> Ended
 /// What an upload tells, and the store of it.
 fn told_of(store: &FileStore, up: &OpenUpload) -> Told {
     Told {
-        number: up.number(),
+        number: up.number().get(),
         length: up.length(),
         held: up.held(),
         is_out: store.is_out(up.number()),

@@ -41,7 +41,7 @@ impl<R: rt::Clock> Player for SystemRows<'_, R> {
 /// `clock`
 fn clock<R: rt::Clock>(alloc: Global, clock: &R) -> Result<String> {
     let mut clock = SystemClock::new(clock);
-    let (first, second) = (clock.now(), clock.now());
+    let (first, second) = (clock.now().get(), clock.now().get());
     if first > YEAR_2024 && second >= first {
         return text_of(alloc, "ok");
     }

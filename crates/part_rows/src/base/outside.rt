@@ -133,7 +133,7 @@ pub fn clock(alloc: Global, row: &str) -> Result<String> {
     let mut clock = read_clock(alloc, moments)?;
     let mut parts = Parts::new(alloc);
     for _ in 0..count {
-        parts.show(clock.now())?;
+        parts.show(clock.now().get())?;
     }
     parts.show(clock.calls())?;
     Ok(parts.end())

@@ -2,15 +2,15 @@
 
 ghost use Rattle.client_notes.specs.State.{StandsOn};
 
+use crate::notes::answers::{shown, shown_begun, shown_noted};
 use crate::notes::task::unfinished;
 use crate::parts::Parts;
 use anyhow::{Context, Result, bail, ensure};
 use client_notes::{LONGEST_FILE, LONGEST_NAME, MOST_GOT, Notes};
 use disk_model::Disk;
-use px_base::Call;
-use row_words::{hex_text, read_octets, text_of};
+use px_base::{Call, FileNumber};
+use row_words::{hex_text, read_octets};
 use std::alloc::Global;
-use std::fmt::Debug;
 
 /// Recovers notes from a disk, and makes these calls on them: `notes` and what each answers; or why there are no notes.
 /// Takes memory.
@@ -55,11 +55,6 @@ fn make_call<D: Disk>(alloc: Global, disk: &mut D, notes: &mut Notes, call: &str
     }
 }
 
-/// An answer, as it is shown.
-fn shown<T: Debug>(alloc: Global, answer: &T) -> Result<String> {
-    text_of(alloc, format_args!("{answer:?}"))
-}
-
 /// `start SERVER CALLER NAME LENGTH DIGEST`
 fn start<D: Disk>(alloc: Global, disk: &mut D, notes: &mut Notes, words: &[&str]) -> Result<String>
     requires { StandsOn D.Disk notes.old disk.old }
@@ -75,9 +70,9 @@ fn start<D: Disk>(alloc: Global, disk: &mut D, notes: &mut Notes, words: &[&str]
     let (server, caller) = (Call::read(server)?, Call::read(caller)?);
     let length = length.parse::<u32>()?;
     let digest = read_digest(alloc, digest)?;
-    shown(
+    shown_begun(
         alloc,
-        &notes.start(disk, server, caller, name, length, digest),
+        notes.start(disk, server, caller, name, length, digest),
     )
 }
 
@@ -106,10 +101,10 @@ fn numbered<D: Disk>(
     let (task, known) = unfinished(notes, server, caller, name)?;
     let number = number.parse::<u32>()?;
     ensure!(
-        known == 0 && number > 0,
-        "task {task} can't get this number"
+        known.get() == 0 && number > 0,
+        "the task can't get this number"
     );
-    shown(alloc, &notes.numbered(disk, task, number))
+    shown(alloc, &notes.numbered(disk, task, FileNumber::new(number)))
 }
 
 /// `acked SERVER CALLER NAME`
@@ -121,7 +116,7 @@ fn acked<D: Disk>(alloc: Global, disk: &mut D, notes: &mut Notes, words: &[&str]
         bail!("no task");
     };
     let (task, known) = unfinished(notes, server, caller, name)?;
-    ensure!(known > 0, "task {task} has no number");
+    ensure!(known.get() > 0, "the task has no number");
     shown(alloc, &notes.acked(disk, task))
 }
 
@@ -154,7 +149,7 @@ fn got<D: Disk>(alloc: Global, disk: &mut D, notes: &mut Notes, words: &[&str]) 
     let octets = read_octets(alloc, octets)?;
     let held = notes.got_len(server, number) as usize;
     ensure!(
-        number > 0 && !octets.is_empty() && octets.len() <= MOST_GOT,
+        number.get() > 0 && !octets.is_empty() && octets.len() <= MOST_GOT,
         "no octets of a file"
     );
     ensure!(
@@ -165,8 +160,8 @@ fn got<D: Disk>(alloc: Global, disk: &mut D, notes: &mut Notes, words: &[&str]) 
 }
 
 /// A file: its server and its number there.
-fn read_file(server: &str, number: &str) -> Result<(Call, u32)> {
-    Ok((Call::read(server)?, number.parse::<u32>()?))
+fn read_file(server: &str, number: &str) -> Result<(Call, FileNumber)> {
+    Ok((Call::read(server)?, FileNumber::new(number.parse::<u32>()?)))
 }
 
 /// `forgot SERVER NUMBER`
@@ -187,7 +182,7 @@ fn noted(alloc: Global, notes: &Notes, words: &[&str]) -> Result<String> {
         bail!("no task");
     };
     let (server, caller) = (Call::read(server)?, Call::read(caller)?);
-    shown(alloc, &notes.noted(server, caller, name))
+    shown_noted(alloc, notes.noted(server, caller, name))
 }
 
 /// `got_len SERVER NUMBER`

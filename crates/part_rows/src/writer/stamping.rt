@@ -9,7 +9,7 @@ use crate::pieces::{cut, cut_octets};
 use anyhow::{Result, bail, ensure};
 use pfh_reader::{HeaderFault, Sums, check_pieces};
 use pfh_writer::{stamp, stamp_pieces, stamped_sum};
-use px_base::Call;
+use px_base::{Call, FileNumber, Moment};
 use row_words::{read_octets, text_of, two_parts};
 use std::alloc::Global;
 
@@ -19,9 +19,9 @@ const TOO_MANY: usize = 4_194_305;
 /// What a file is stamped with.
 #[derive(Drop)]
 struct With {
-    number: u32,
+    number: FileNumber,
     by: Call,
-    moment: u32,
+    moment: Moment,
 }
 
 /// `stamp NUMBER CALL MOMENT | FILE`
@@ -42,9 +42,9 @@ fn read_with(alloc: Global, text: &str) -> Result<With> {
         bail!("no number, call and moment");
     };
     Ok(With {
-        number: number.parse::<u32>()?,
+        number: FileNumber::new(number.parse::<u32>()?),
         by: Call::read(by)?,
-        moment: moment.parse::<u32>()?,
+        moment: Moment::new(moment.parse::<u32>()?),
     })
 }
 

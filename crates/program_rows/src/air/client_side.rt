@@ -10,8 +10,8 @@ use anyhow::{Result, bail, ensure};
 use arrayvec::ArrayVec;
 use client_notes::{Begun, LONGEST_FILE, Notes};
 use disk_model::Disk;
-use ftl0_client::{Client, Job, Outcome};
-use px_base::{Call, FileBytes};
+use ftl0_client::{Client, Job};
+use px_base::{Call, FileBytes, FileNumber};
 use sha2::{Digest, Sha256};
 use std::alloc::Global;
 
@@ -66,14 +66,14 @@ impl<D: Disk + Drop> ClientSide<D> {
         requires { IsReadyClient D.Disk self.old }
         ensures { OnOk result (IsReadyClient D.Disk self.new) }
     {
-        ensure!(self.client.outcome() != Outcome::Working, "under way");
+        ensure!(!self.client.is_under_way(), "under way");
         ensure!(file.len() <= LONGEST_FILE as usize, "the file is too long");
         let digest = Sha256::digest(file);
         let begun = self
             .client
             .start_task(&mut self.disk, NAME, file.len() as u32, digest)?;
         let (task, number) = match begun {
-            Begun::Fresh { task } => (task, 0),
+            Begun::Fresh { task } => (task, FileNumber::new(0)),
             Begun::Going { task, number } => (task, number),
             Begun::Already { .. } => return Ok(begun),
         };
@@ -88,19 +88,19 @@ impl<D: Disk + Drop> ClientSide<D> {
         requires { IsReadyClient D.Disk self.old }
         ensures { OnOk result (IsReadyClient D.Disk self.new) }
     {
-        ensure!(self.client.outcome() != Outcome::Working, "under way");
+        ensure!(!self.client.is_under_way(), "under way");
         let tokens = FileBytes::copy_of(alloc, &ALL_FILES)?;
         self.client.ask(alloc, Job::list(alloc, tokens))?;
         self.say(said)
     }
 
     /// Asks for the download of the file of this number.
-    pub fn download(&mut self, alloc: Global, number: u32, said: &mut Lane) -> Result<()>
+    pub fn download(&mut self, alloc: Global, number: FileNumber, said: &mut Lane) -> Result<()>
         requires { IsReadyClient D.Disk self.old }
         ensures { OnOk result (IsReadyClient D.Disk self.new) }
     {
-        ensure!(self.client.outcome() != Outcome::Working, "under way");
-        ensure!(number >= 1, "no number");
+        ensure!(!self.client.is_under_way(), "under way");
+        ensure!(number.get() >= 1, "no number");
         let held = self.client.notes().got_len(self.server, number);
         ensure!(held == 0, "{held} octets were got before");
         self.client.ask(alloc, Job::download(self.server, number))?;
@@ -108,7 +108,7 @@ impl<D: Disk + Drop> ClientSide<D> {
     }
 
     /// The octets that were got of the file of this number.
-    pub fn got(&self, number: u32) -> &[u8] {
+    pub fn got(&self, number: FileNumber) -> &[u8] {
         self.client.notes().got_octets(self.server, number)
     }
 

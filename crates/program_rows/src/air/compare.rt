@@ -11,7 +11,7 @@ use crate::air::server_side::LIMITS;
 use anyhow::{Context, Result, bail, ensure};
 use disk_model::Disk;
 use file_store::{FileStore, Info};
-use px_base::le32;
+use px_base::{FileNumber, le32};
 use row_words::text_of;
 use std::alloc::Global;
 
@@ -32,7 +32,7 @@ pub fn compare<D: Disk>(alloc: Global, disk: &mut D, file: &[u8], got: &Got) -> 
     let listed = compare_list(&store, got.listing.as_slice())?;
     let octets = stored(alloc, &mut store, disk, got.number)?;
     compare_octets(octets.as_slice(), file, got)?;
-    let (number, fetched) = (got.number, octets.len());
+    let (number, fetched) = (got.number.get(), octets.len());
     text_of(
         alloc,
         format_args!("acked {number} listed {listed} fetched {fetched}"),
@@ -56,8 +56,8 @@ fn compare_octets(octets: &[u8], file: &[u8], got: &Got) -> Result<()> {
 fn compare_list(store: &FileStore, listing: &[u8]) -> Result<usize> {
     let mut headers = listing.chunks(SHORT_LEN);
     let mut count: usize = 0;
-    for number in 1..store.next_number() {
-        if let Some(size) = size_of(store, number) {
+    for number in 1..store.next_number().get() {
+        if let Some(size) = size_of(store, FileNumber::new(number)) {
             let header = headers.next().context("a file isn't listed")?;
             ensure!(says(header, number, size), "file {number} is listed wrong");
             count = count.saturating_add(1);
@@ -68,7 +68,7 @@ fn compare_list(store: &FileStore, listing: &[u8]) -> Result<usize> {
 }
 
 /// The size of the file of this number, if it is complete.
-fn size_of(store: &FileStore, number: u32) -> Option<u32> {
+fn size_of(store: &FileStore, number: FileNumber) -> Option<u32> {
     let info = store.info(number)?;
     info.complete.then_some(info.length)
 }
@@ -88,7 +88,7 @@ fn stored<D: Disk>(
     alloc: Global,
     store: &mut FileStore,
     disk: &mut D,
-    number: u32,
+    number: FileNumber,
 ) -> Result<Vec<u8>>
     requires { IsReady D.Disk store.old disk.old }
 {
@@ -103,7 +103,7 @@ fn octets_of<D: Disk>(
     alloc: Global,
     store: &mut FileStore,
     disk: &mut D,
-    number: u32,
+    number: FileNumber,
     info: Info,
 ) -> Result<Vec<u8>>
     requires ready { IsReady D.Disk store.old disk.old }

@@ -10,6 +10,7 @@ use anyhow::{Result, bail, ensure};
 use client_notes::Begun;
 use disk_model::Disk;
 use ftl0_client::Outcome;
+use px_base::FileNumber;
 use std::alloc::Global;
 
 /// How many exchanges there are at most until the client is done.
@@ -26,7 +27,7 @@ pub struct Stations<C, S> {
 #[derive(Drop)]
 pub struct Got {
     /// The number of its file.
-    pub number: u32,
+    pub number: FileNumber,
     /// The list of all files.
     pub listing: Vec<u8>,
     /// The file's octets.
@@ -67,7 +68,7 @@ impl<C: Disk + Drop, S: Disk + Drop> Stations<C, S> {
     }
 
     /// Uploads the file, or goes on with it, and gives its number.
-    fn upload(&mut self, alloc: Global, file: &[u8]) -> Result<u32>
+    fn upload(&mut self, alloc: Global, file: &[u8]) -> Result<FileNumber>
         requires { AreReady C.Disk S.Disk self.old }
         ensures { OnOk result (AreReady C.Disk S.Disk self.new) }
     {
@@ -75,9 +76,12 @@ impl<C: Disk + Drop, S: Disk + Drop> Stations<C, S> {
         if let Begun::Already { number } = begun {
             return Ok(number);
         }
-        match self.carry(usize::MAX)? {
+        let Some(outcome) = self.carry(usize::MAX)? else {
+            bail!("the upload came to nothing");
+        };
+        match outcome {
             Outcome::Acked { number } => Ok(number),
-            outcome => bail!("the upload came to {outcome:?}"),
+            other => bail!("the upload came to {other:?}"),
         }
     }
 
@@ -88,25 +92,28 @@ impl<C: Disk + Drop, S: Disk + Drop> Stations<C, S> {
     {
         self.client.list(alloc, &mut self.air.up)?;
         let outcome = self.carry(usize::MAX)?;
-        ensure!(outcome == Outcome::Listed, "the list came to {outcome:?}");
+        ensure!(
+            outcome == Some(Outcome::Listed),
+            "the list came to {outcome:?}"
+        );
         Ok(Vec::from_slice(alloc, self.client.client.listing())?)
     }
 
     /// Gets the file of this number.
-    fn download(&mut self, alloc: Global, number: u32) -> Result<Vec<u8>>
+    fn download(&mut self, alloc: Global, number: FileNumber) -> Result<Vec<u8>>
         requires { AreReady C.Disk S.Disk self.old }
         ensures { OnOk result (AreReady C.Disk S.Disk self.new) }
     {
         self.client.download(alloc, number, &mut self.air.up)?;
         let outcome = self.carry(usize::MAX)?;
-        let wanted = Outcome::Fetched { number };
+        let wanted = Some(Outcome::Fetched { number });
         ensure!(outcome == wanted, "the download came to {outcome:?}");
         Ok(Vec::from_slice(alloc, self.client.got(number))?)
     }
 
     /// Carries frames until the client is done, or the server heard so many octets, and says what became of what was
-    /// asked. What is on the air then is lost.
-    fn carry(&mut self, octets: usize) -> Result<Outcome>
+    /// asked, if anything did. What is on the air then is lost.
+    fn carry(&mut self, octets: usize) -> Result<Option<Outcome>>
         requires { AreReady C.Disk S.Disk self.old }
         ensures { OnOk result (AreReady C.Disk S.Disk self.new) }
     {

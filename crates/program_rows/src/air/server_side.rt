@@ -11,7 +11,7 @@ use arrayvec::ArrayVec;
 use disk_model::Disk;
 use file_store::Limits;
 use ftl0_server::Server;
-use px_base::Call;
+use px_base::{Call, Moment};
 use std::alloc::Global;
 
 /// What the store may take.
@@ -23,7 +23,7 @@ pub struct ServerSide<D> {
     server: Server,
     disk: D,
     /// The moment, which goes up by one each tick.
-    moment: u32,
+    moment: Moment,
 }
 
 impl<D: Disk + Drop> ServerSide<D> {
@@ -39,7 +39,7 @@ impl<D: Disk + Drop> ServerSide<D> {
             me,
             server,
             disk,
-            moment: 1,
+            moment: Moment::new(1),
         })
     }
 
@@ -83,7 +83,7 @@ impl<D: Disk + Drop> ServerSide<D> {
         requires { IsReadyServer D.Disk self.old }
         ensures { OnOk result (IsReadyServer D.Disk self.new) }
     {
-        self.moment = self.moment.saturating_add(1);
+        self.moment = Moment::new(self.moment.get().saturating_add(1));
         self.server.tick(&mut self.disk, self.moment)?;
         self.say(said)
     }

@@ -5,7 +5,7 @@ use anyhow::Result;
 use client_notes::{Noted, Notes, StoreFault};
 use disk_model::MemoryDisk;
 use pfh_items::sum16;
-use px_base::Call;
+use px_base::{Call, FileNumber};
 use row_words::text_of;
 use std::alloc::Global;
 
@@ -35,13 +35,15 @@ fn notes_text(
 ) -> Result<String> {
     match about {
         About::Sent { name } => noted_text(alloc, notes.noted(stations.server, stations.me, name)),
-        About::Fetched { number, .. } => got_text(alloc, notes, stations.server, *number),
+        About::Fetched { number, .. } => {
+            got_text(alloc, notes, stations.server, FileNumber::new(*number))
+        }
         About::Listed => text_of(alloc, "notes"),
     }
 }
 
 /// How many octets of the file with this number of a server are got, and their sum.
-fn got_text(alloc: Global, notes: &Notes, server: Call, number: u32) -> Result<String> {
+fn got_text(alloc: Global, notes: &Notes, server: Call, number: FileNumber) -> Result<String> {
     let len = notes.got_len(server, number);
     let mut room = Vec::new(alloc);
     room.resize(len as usize, 0)?;
@@ -52,19 +54,21 @@ fn got_text(alloc: Global, notes: &Notes, server: Call, number: u32) -> Result<S
 
 /// How a task stands.
 fn noted_text(alloc: Global, noted: Option<Noted>) -> Result<String> {
+    let Some(noted) = noted else {
+        return text_of(alloc, "none");
+    };
     match noted {
-        Some(Noted::Going { task, number }) => text_of(
+        Noted::Going { task, number } => text_of(
             alloc,
-            format_args!("going {task} {number}"),
+            format_args!("going {} {}", task.get(), number.get()),
         ),
-        Some(Noted::Acked { task, number }) => text_of(
+        Noted::Acked { task, number } => text_of(
             alloc,
-            format_args!("acked {task} {number}"),
+            format_args!("acked {} {}", task.get(), number.get()),
         ),
-        Some(Noted::Refused { task, code }) => text_of(
+        Noted::Refused { task, code } => text_of(
             alloc,
-            format_args!("refused {task} {code}"),
+            format_args!("refused {} {code}", task.get()),
         ),
-        None => text_of(alloc, "none"),
     }
 }

@@ -11,6 +11,7 @@ use anyhow::Result;
 use disk_model::{Disk, MemoryDisk};
 use file_store::{FileStore, Info, Limits, StoreFault};
 use pfh_items::sum16;
+use px_base::FileNumber;
 use row_words::text_of;
 use std::alloc::Global;
 
@@ -32,10 +33,10 @@ pub fn standing_text(alloc: Global, octets: &[u8]) -> Result<String> {
 fn store_text<D: Disk>(alloc: Global, store: &mut FileStore, disk: &mut D) -> Result<String>
     requires { IsReady D.Disk store.old disk.old }
 {
-    let next = store.next_number();
+    let next = store.next_number().get();
     let mut text = text_of(alloc, format_args!("next {next}"))?;
     for number in 1..next {
-        let entry = entry_text(alloc, store, disk, number)?;
+        let entry = entry_text(alloc, store, disk, FileNumber::new(number))?;
         text.push_str(entry.as_str())?;
     }
     Ok(text)
@@ -46,7 +47,7 @@ fn entry_text<D: Disk>(
     alloc: Global,
     store: &mut FileStore,
     disk: &mut D,
-    number: u32,
+    number: FileNumber,
 ) -> Result<String>
     requires ready { IsReady D.Disk store.old disk.old }
     ensures { StaysReady D.Disk store.old store.new disk.new }
@@ -62,7 +63,7 @@ fn info_text<D: Disk>(
     alloc: Global,
     store: &mut FileStore,
     disk: &mut D,
-    number: u32,
+    number: FileNumber,
     info: Info,
 ) -> Result<String>
     requires ready { IsReady D.Disk store.old disk.old }
@@ -71,16 +72,16 @@ fn info_text<D: Disk>(
 {
     let caller = info.caller.text();
     let call = caller.as_str();
-    let length = info.length;
+    let (shown, length) = (number.get(), info.length);
     if info.complete {
         let sum = sum_of(alloc, store, disk, number, info)?;
         return text_of(
             alloc,
-            format_args!(" {number}:{call}:{length}:complete {sum:04x}"),
+            format_args!(" {shown}:{call}:{length}:complete {sum:04x}"),
         );
     }
     let held = info.held;
-    text_of(alloc, format_args!(" {number}:{call}:{length}:held {held}"))
+    text_of(alloc, format_args!(" {shown}:{call}:{length}:held {held}"))
 }
 
 /// The sum of the octets of a complete entry of this number.
@@ -88,7 +89,7 @@ fn sum_of<D: Disk>(
     alloc: Global,
     store: &mut FileStore,
     disk: &mut D,
-    number: u32,
+    number: FileNumber,
     info: Info,
 ) -> Result<u16>
     requires ready { IsReady D.Disk store.old disk.old }

@@ -1,0 +1,67 @@
+//! The answers of notes, as they are shown.
+
+use anyhow::Result;
+use client_notes::{Begun, Noted, NotesRefusal};
+use row_words::text_of;
+use std::alloc::Global;
+use std::fmt::Debug;
+
+/// An answer.
+pub fn shown<T: Debug>(alloc: Global, answer: &T) -> Result<String> {
+    text_of(alloc, format_args!("{answer:?}"))
+}
+
+/// What a start found, or noted; or why it was refused.
+pub fn shown_begun(alloc: Global, answer: Result<Begun, NotesRefusal>) -> Result<String> {
+    let begun = match answer {
+        Ok(begun) => begun,
+        Err(refusal) => return text_of(alloc, format_args!("Err({refusal:?})")),
+    };
+    match begun {
+        Begun::Fresh { task } => {
+            let task = task.get();
+            text_of(alloc, format_args!("Ok(Fresh {{ task: {task} }})"))
+        }
+        Begun::Already { number } => {
+            let number = number.get();
+            text_of(alloc, format_args!("Ok(Already {{ number: {number} }})"))
+        }
+        Begun::Going { task, number } => {
+            let (task, number) = (task.get(), number.get());
+            text_of(
+                alloc,
+                format_args!("Ok(Going {{ task: {task}, number: {number} }})"),
+            )
+        }
+    }
+}
+
+/// How a task stands, if there is one.
+pub fn shown_noted(alloc: Global, noted: Option<Noted>) -> Result<String> {
+    let Some(noted) = noted else {
+        return text_of(alloc, "None");
+    };
+    match noted {
+        Noted::Going { task, number } => {
+            let (task, number) = (task.get(), number.get());
+            text_of(
+                alloc,
+                format_args!("Some(Going {{ task: {task}, number: {number} }})"),
+            )
+        }
+        Noted::Acked { task, number } => {
+            let (task, number) = (task.get(), number.get());
+            text_of(
+                alloc,
+                format_args!("Some(Acked {{ task: {task}, number: {number} }})"),
+            )
+        }
+        Noted::Refused { task, code } => {
+            let task = task.get();
+            text_of(
+                alloc,
+                format_args!("Some(Refused {{ task: {task}, code: {code} }})"),
+            )
+        }
+    }
+}
