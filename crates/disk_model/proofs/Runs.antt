@@ -52,11 +52,11 @@ module _ {D : Type 0} (g : Ghosts D) where
 
   -- no call
   pub stops_none : (disk : D) → g.lasts disk disk → StopsAtFault g disk disk
-  stops_none disk same = record { last = disk; lasts = same; reads = refl; writes = refl; since = inl (refl, omega arith, still disk) }
+  stops_none disk same = record { last = disk; lasts = same; lasts_on = same; reads = refl; writes = refl; since = inl (refl, omega arith, still disk) }
 
   -- reads alone
-  pub stops_reads : (old new : D) → g.lasts old old → ChangesReads g old new → StopsAtFault g old new
-  stops_reads old new same only = record { last = old; lasts = same; reads = refl; writes = refl; since = inr only }
+  pub stops_reads : (old new : D) → g.lasts old old → g.lasts old new → ChangesReads g old new → StopsAtFault g old new
+  stops_reads old new same lasts only = record { last = old; lasts = same; lasts_on = lasts; reads = refl; writes = refl; since = inr only }
 
   module _ (on : (first second third : D) → g.lasts first second → g.lasts second third → g.lasts first third) where
     -- behind calls that didn't fail
@@ -168,12 +168,12 @@ module _ {D : Type 0} (g : Ghosts D) where
   -- ---- writes and syncs, with reads among them
 
   -- reads alone, and no write that failed
-  pub puts_among_reads : (P Q : Type 0) (old new : D) → ¬ Q → Reads g P old new → PutsAmongReads g Q old new
-  puts_among_reads P Q old new fine run = record {
+  pub puts_among_reads : (P Q : Type 0) (old new : D) → g.lasts old old → ¬ Q → Reads g P old new → PutsAmongReads g Q old new
+  puts_among_reads P Q old new same fine run = record {
     told = alike_same _ _ run.only.same_content;
     reads = run.faults.no_less;
     faults = record { no_less = omega (arith, run.only.same_write_faults); rose = λ failed. absurd (fine failed); same = λ still. run.only.same_write_faults };
-    stops = record { last = new; lasts = run.lasts; writes = run.only.same_write_faults; since = inr (changes_none g new) };
+    stops = record { last = old; lasts = same; lasts_on = run.lasts; writes = refl; since = inr run.only };
     lasts = run.lasts;
   }
 
@@ -185,6 +185,7 @@ module _ {D : Type 0} (g : Ghosts D) where
     stops = record {
       last = puts.stops.last;
       lasts = puts.stops.lasts;
+      lasts_on = puts.stops.lasts_on;
       writes = puts.stops.writes;
       since = ⊎_elim (λ one. inl (one.1, one.2)) (λ only. inr only) puts.stops.since;
     };
@@ -207,7 +208,7 @@ module _ {D : Type 0} (g : Ghosts D) where
     told = alike_on _ _ _ told second.told;
     reads = omega (arith, reads, second.reads);
     faults = counts_on _ _ _ Q writes second.faults;
-    stops = record { last = second.stops.last; lasts = on old mid second.stops.last lasts second.stops.lasts; writes = second.stops.writes ∙ writes; since = second.stops.since };
+    stops = record { last = second.stops.last; lasts = on old mid second.stops.last lasts second.stops.lasts; lasts_on = second.stops.lasts_on; writes = second.stops.writes ∙ writes; since = second.stops.since };
     lasts = on old mid new lasts second.lasts;
   }
 

@@ -96,6 +96,15 @@ pub record LosesWrite (calls calls_now : List DiskCall) (down down_now : Bool) (
   pub down_before : down ≡ true → (calls_now ≡ calls) × (down_now ≡ true)
   pub far : 2 ^ 63 < at + count → (calls_now ≡ calls) × (down_now ≡ down)
 
+-- The disk goes on: the octets at first stay, its calls are those before and then some further ones, or none, and no
+-- count of faults falls.
+pub record GoesOn (before now : DiskState) : Type 0 where
+  pub first : now.first ≡ before.first
+  pub further : List DiskCall
+  pub calls : now.calls ≡ before.calls ++ further
+  pub reads : before.read_faults ≤ now.read_faults
+  pub writes : before.write_faults ≤ now.write_faults
+
 -- A call of `len` or `read` fails exactly where it is listed.
 pub record IsReading {T E : Type 0} (before now : DiskState) (result : Result T E) : Type 0 where
   pub ok : OnOk result ((IsListed before.counter → ⊥) × (now ≡ state_after_reading before))

@@ -1,6 +1,6 @@
 -- What contracts see of a disk in memory.
 use Rattle.std.specs.Prelude.{◌≡◌, ℕ, List, Option, Some, true}
-use Rattle.disk_model.specs.Calls.{DiskState, content_of, images_of, images_since_of, moment_of}
+use Rattle.disk_model.specs.Calls.{DiskState, GoesOn, content_of, images_of, images_since_of, moment_of}
 use Rattle.disk_model.specs.declared.disk.Disk.{Ghosts}
 use Rattle.disk_model.specs.declared.memory_disk.MemoryDisk.{MemoryDisk}
 
@@ -37,9 +37,9 @@ write_faults disk = (state disk).write_faults
 abbrev pub is_down : MemoryDisk → Type 0
 is_down disk = (state disk).down ≡ true
 
--- It keeps nothing special through its calls.
+-- what lasts through its calls: they go on
 abbrev pub lasts : MemoryDisk → MemoryDisk → Type 0
-lasts old new = Unit {0}
+lasts old new = GoesOn (state old) (state new)
 
 -- these, as of any disk
 abbrev pub ghosts : Ghosts MemoryDisk

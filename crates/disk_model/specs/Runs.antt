@@ -56,6 +56,7 @@ ChangesReads g = OnlyReads g.content g.images g.moment g.images_since g.write_fa
 pub record StopsAtFault {D : Type 0} (g : Ghosts D) (old new : D) : Type 0 where
   pub last : D
   pub lasts : g.lasts old last
+  pub lasts_on : g.lasts last new
   pub reads : g.read_faults last ≡ g.read_faults old
   pub writes : g.write_faults last ≡ g.write_faults old
   pub since :
@@ -98,6 +99,7 @@ pub record Runs {D : Type 0} (g : Ghosts D) (failed : Type 0) (old new : D) : Ty
 pub record StopsAtFailedWrite {D : Type 0} (g : Ghosts D) (old new : D) : Type 0 where
   pub last : D
   pub lasts : g.lasts old last
+  pub lasts_on : g.lasts last new
   pub writes : g.write_faults last ≡ g.write_faults old
   pub since :
       ((g.moment new ≤ g.moment last + 1) × TimePasses g.moment g.images g.images_since last new)

@@ -5,8 +5,8 @@ ghost use Rattle.std.specs.Prelude.{◌≡◌};
 use px_base::OutOfMemory;
 use thiserror::Error;
 
-/// Why what takes events over a disk (a client's job, a client, what a node drives) takes no further one. A server
-/// takes no memory while it runs, and halts by a [`DiskFault`](crate::DiskFault) alone.
+/// Why a client's job, or a client, takes no further event over its disk. A session and a server take no memory while
+/// they run, and halt by a [`DiskFault`](crate::DiskFault) alone; what a node drives answers the stop of its node.
 #[derive(Clone, Copy, Debug, PartialEq, Eq, Error)]
 pub enum Halt {
     /// The disk failed at a write or a sync, and its count of write faults rose. What was done on it before stays, and

@@ -6,7 +6,7 @@ ghost use Rattle.px_base.specs.Counter.{HasCauses};
 ghost use Rattle.px_base.specs.Outside.{HasCause};
 ghost use Rattle.disk_model.specs.Disk.{IsQuiet};
 ghost use Rattle.disk_model.specs.Promised.{PromisesLen, PromisesRead, PromisesSync, PromisesWrite};
-ghost use Rattle.disk_model.specs.Calls.{IsFailingSync, IsPowerCut, IsReading, IsSyncing, IsTearing, IsWriting};
+ghost use Rattle.disk_model.specs.Calls.{GoesOn, IsFailingSync, IsPowerCut, IsReading, IsSyncing, IsTearing, IsWriting};
 ghost use Rattle.disk_model.specs.Calls.{content_of, images_of, new_state, surface, with_starved, with_starved_fault};
 ghost use Rattle.disk_model.specs.Calls.{with_write_fault};
 ghost use Rattle.disk_model.specs.Crash.{IsFilled};
@@ -87,6 +87,7 @@ impl MemoryDisk {
     fn count_reading(&mut self) -> Result<(), DiskFault>
         ensures reading { IsReading (state self.old) (state self.new) result }
         ensures cause { HasCause (state self.old).read_faults (state self.new).read_faults result }
+        ensures lasts { GoesOn (state self.old) (state self.new) }
     {
         if self.counter.count() {
             self.read_faults.count();
@@ -242,7 +243,7 @@ impl Disk for MemoryDisk {
 
     ghost earlier = { law.earlier };
 
-    ghost lasts_same = { λ _. tt };
+    ghost lasts_same = { law.lasts_same };
 
-    ghost lasts_on = { λ _ _ _ _ _. tt };
+    ghost lasts_on = { law.lasts_on };
 }
