@@ -6,7 +6,7 @@ use Rattle.block_entries.specs.Placed.{PlacedStore}
 use Rattle.block_entries.specs.PlacedCommand.{PlacedCommand, after, begin, drop_entry, grow, is_allowed, seal}
 use Rattle.block_entries.specs.ReadStore.{ReadStore, Recorded, after_recorded, change, is_recordable, next_is}
 use Rattle.file_entries.specs.Command as file
-use Rattle.file_entries.specs.Command.{Command, IsAllowed}
+use Rattle.file_entries.specs.Command.{Command}
 use Rattle.file_journal.specs.Form.{record_calls}
 use Rattle.file_journal.specs.Layout.{Blocks}
 use Rattle.file_journal.specs.Records.{Record, record_of}

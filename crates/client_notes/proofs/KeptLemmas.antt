@@ -1,6 +1,8 @@
 -- The notes as a state that is kept.
-use Rattle.std.proofs.Common.{◌≡◌, ◌≢◌, ◌↔◌, inl, inr, ⊎_elim, ℕ, zero, suc, ◌+◌, ◌<◌, ◌≤◌, List, [], ◌∷◌, Result, Ok, Err, IsErr, IsErrOf, OnErr, OnOk, refl, sym, ◌∙◌, ap, subst, arith}
+use Rattle.std.proofs.Common.{◌≡◌, ◌≢◌, ◌↔◌, inl, inr, ⊎_elim, ℕ, zero, suc, ◌+◌, ◌<◌, ◌≤◌, List, [], ◌∷◌, IfSome, Result, Ok, Err, IsErr, IsErrOf, OnErr, OnOk, refl, sym, ◌∙◌, ap, subst, arith}
 use Rattle.file_journal.specs.Commands.{MakesBetween, after_first}
+use Rattle.file_journal.proofs.Offered.{good_header}
+use Rattle.file_journal.specs.Journal.{HasGoodHeader, journal_of}
 use Rattle.file_journal.specs.Kept as kept
 use Rattle.file_journal.specs.Recovery.{IsFailedSync, IsSyncedFirst}
 use Rattle.file_journal.specs.declared.faults.StoreFault.{StoreFault}
@@ -12,7 +14,7 @@ use Rattle.client_notes.specs.declared.noted_lists.Coming.{Coming}
 use Rattle.client_notes.specs.declared.noted_lists.Coming.TheVariants as coming
 use Rattle.client_notes.specs.declared.noted_lists.NotedLists.{NotedLists}
 use Rattle.client_notes.specs.declared.refusals.NotesRefusal.TheVariants as refusal
-use Rattle.client_notes.proofs.Names.{Ghosts, kept_on, Position, does_same, paced_always, room_always, runs_same, told_weaker, weaker, Noting, NotesCommand, Lists, lists_of, without, Answers, Does, EachImage, IsBeforeOrAfter, notes_form, AnswersRecovery, IsRecovered, Recovers, StandsAlike, IsReady, NotesState, StandsFor, StandsOn}
+use Rattle.client_notes.proofs.Names.{Ghosts, kept_on, Position, does_same, paced_always, room_always, runs_same, told_weaker, weaker, Noting, NotesCommand, Lists, lists_of, without, Answers, Does, EachImage, IsBeforeOrAfter, notes_form, notes_seen, notes_steps, AnswersRecovery, IsRecovered, Recovers, StandsAlike, IsReady, NotesState, StandsFor, StandsOn}
 use Rattle.client_notes.proofs.PutLemmas.{IsPut, images-here, stands-notes}
 
 -- some number of one command
@@ -149,6 +151,12 @@ recovers-as {T} g disk disk_now self x is answers = record {
   runs = runs_same g _ ⊥ disk disk_now (λ failed. cc failed) (λ never. absurd never) answers.runs;
 }
 
+-- the content that it was given of begins as that of a store, or is of none yet
+pub recovers-good : {D : Type 0} (g : Ghosts D) (disk disk_now : D) (self : NotesState) → Recovers g disk disk_now self
+    → IfSome (g.content disk) (λ before. HasGoodHeader (journal_of notes_form.magic notes_form.layout before))
+recovers-good g disk disk_now self recovers =
+    told_weaker (g.content disk) _ _ (λ before told stands. good_header g notes_steps (λ held now. now) notes_form notes_seen 1 before self.lists stands) recovers.recovered.content
+
 -- what a recovery answers, it answers as well where the same is refused
 pub answers-as : {D T U : Type 0} (g : Ghosts D) (old now : D) (one : Result T StoreFault) (other : Result U StoreFault) → ((fault : StoreFault) → IsErrOf one fault ↔ IsErrOf other fault)
     → AnswersRecovery g one old now → AnswersRecovery g other old now
@@ -159,6 +167,7 @@ answers-as g old now one other same answers = record {
   }) (answers.refuses (λ is. healthy ((same fault.Disk).0 is)) (λ is. room ((same fault.OutOfMemory).0 is)));
   untouched = λ found is. answers.untouched found ((same (fault.NotAStore found)).1 is);
   untouched_damage = λ at is. answers.untouched_damage at ((same (fault.Damaged at)).1 is);
+  memory = λ is. answers.memory ((same fault.OutOfMemory).1 is);
   runs = runs_same g _ _ old now (same fault.Disk).0 (same fault.Disk).1 answers.runs;
   within = answers.within;
   since_start = answers.since_start;

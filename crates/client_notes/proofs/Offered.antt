@@ -2,7 +2,7 @@
 pub use Rattle.client_notes.proofs.CutLemmas.{cuts-none, cuts-then, does-nothing}
 pub use Rattle.client_notes.proofs.GotLemmas.{forgot-none, got-allowed, got-append}
 pub use Rattle.client_notes.proofs.KeepLemmas.{tasks_law}
-pub use Rattle.client_notes.proofs.KeptLemmas.{answers-err, one-half, recovered-ready, recovers-as}
+pub use Rattle.client_notes.proofs.KeptLemmas.{answers-err, one-half, recovered-ready, recovers-as, recovers-good}
 pub use Rattle.client_notes.proofs.PutLemmas.{images-here}
 pub use Rattle.client_notes.proofs.SeveralLemmas.{after_all-append, after_first-then, AreAllowed-append, AreAllowed-first, AreAllowed-split, makes-longer, Several-longer, Several-none, Several-one, Several-ready, Several-same, Several-then}
 pub use Rattle.client_notes.proofs.StartLemmas.{acked-last, begun-fresh, begun-kept, IsOfTask, not-failed, of_task}

@@ -17,10 +17,11 @@ use px_base::{Call, FileNumber, OutOfMemory};
 
 impl Lists {
     /// Applies a command that was read from a record: whether its condition holds. One whose condition doesn't hold
-    /// changes nothing, and so does want of memory. Takes memory.
+    /// changes nothing, and so does want of memory, which comes only where it holds. Takes memory.
     pub(crate) fn apply_command(&mut self, command: &Command<'_>) -> Result<bool, OutOfMemory>
         requires { IsWritable (command_value command.now) }
         ensures applied { IfOk result (λ done. Applied done self.old self.new (command_value command.now)) }
+        ensures memory { OnErr result (IsTrue (is_allowed self.old (command_value command.now))) }
         ensures err { OnErr result (self.new ≡ self.old) }
     {
         if !self.allows(command) {

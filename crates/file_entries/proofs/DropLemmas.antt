@@ -1,5 +1,5 @@
 -- While no file is given up, each number that was given is that of an entry.
-use Rattle.std.proofs.Common.{◌≡◌, ℕ, ◌+◌, List, [], ◌∷◌, length, arith, length-append}
+use Rattle.std.proofs.Common.{◌≡◌, ◌+◌, List, [], ◌∷◌, length, arith, length-append}
 use Rattle.file_entries.proofs.Names.{IsTrue, length-map, AreAllowed, Command, DropsNothing, KeepsFile, after, after_all, begin, changed, drop_entry, grow, grown, is_allowed, seal, sealed, Store, new_entry}
 use Rattle.file_entries.proofs.AfterLemmas.{begin-allowed}
 

@@ -1,5 +1,5 @@
 -- The names of specs, and of the crates below, that proofs use, in one place.
-pub use Rattle.disk_model.proofs.Offered.{alike_on, alike_same, among_on, at_ok, at_told, changes_none, changes_on, content_now, counts_on, counts_same, either_way, err_there, goes_on, if_told, joined, kept_back, kept_behind, makes_failed, makes_on, makes_weaker, ok_there, on_err, on_ok_both, once, puts_among, puts_among_same, puts_among_then, puts_none, puts_on, puts_once, puts_same, quiet_by_sync, quiet_images, reads, reads_none, reads_now, reads_on, reads_same, some_one, some_still, started, stops_on, stops_reads, three_parts, told_before, told_weaker, torn_by, torn_front, torn_length, torn_none, torn_octet, torn_on, torn_wider, torn_within, weaker, written}
+pub use Rattle.disk_model.proofs.Offered.{alike_on, alike_same, among_on, at_ok, at_told, changes_none, changes_on, content_now, counts_on, counts_same, either_way, err_there, goes_on, if_told, joined, kept_back, kept_behind, makes_failed, makes_on, makes_weaker, ok_there, on_err, on_ok_both, once, puts_among, puts_among_reads, puts_among_same, puts_among_then, puts_none, puts_on, puts_once, puts_same, quiet_by_sync, quiet_images, reads, reads_none, reads_now, reads_on, reads_same, some_one, some_still, started, stops_on, stops_reads, three_parts, told_before, told_weaker, torn_by, torn_front, torn_length, torn_none, torn_octet, torn_on, torn_wider, torn_within, weaker, written}
 pub use Rattle.disk_model.specs.Disk.{AreAmong, Follows, HasContent, IsTold, Only, Torn, Writes}
 pub use Rattle.disk_model.specs.Moments.{LeavesOnly, LeavesSince, SinceNow, TakesOneMoment, TimePasses}
 pub use Rattle.disk_model.specs.Runs.{ChangesReads, CountsFault, CountsSome, EachImage, IsQuietNow, Leaves, Makes, Puts, PutsAmongReads, Reads, Runs, TakesStep, TellsAlike, images_now, one_if}

@@ -1,6 +1,6 @@
 -- What writes, whole and torn, make of octets.
 use Rattle.std.proofs.Common.{◌≡◌, inl, inr, ℕ, ◌+◌, ◌-◌, ◌<◌, ◌≤◌, List, ◌∷◌, ◌++◌, length, get_or, take, drop, sym, ◌∙◌, ap, subst, arith, length-take, append_assoc, take-append-drop, take-take, drop-drop, get_or-take, ◌≢◌, [], refl, length-append, length-drop}
-use Rattle.file_journal.proofs.Names.{torn_by, torn_front, torn_length, torn_none, torn_octet, torn_on, written, kept_back, common_steps, cases_lt, drop-take, drop_all, take_rest, le32, Writes, Torn, take_all, block_in, block_place, take-append-add, Lays, length-take-le, IsPutting, OpensGate, with_gate}
+use Rattle.file_journal.proofs.Names.{torn_by, torn_front, torn_length, torn_none, torn_octet, torn_on, written, common_steps, cases_lt, drop-take, le32, Writes, Torn, take_all, block_in, block_place, take-append-add, Lays, length-take-le, IsPutting, OpensGate, with_gate}
 
 -- the front of octets, in which the header is read
 pub front16 : (octets room : List ℕ) → room ≡ take 16 (drop 0 octets) → (le32 room 8 ≡ le32 octets 8) × (get_or room 15 0 ≡ get_or octets 15 0) × (take 8 room ≡ take 8 octets)

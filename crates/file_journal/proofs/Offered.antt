@@ -8,7 +8,7 @@ pub use Rattle.file_journal.proofs.KeptLemmas.{images_here}
 pub use Rattle.file_journal.proofs.ToldLemmas.{knew, known_told, knows_on}
 pub use Rattle.file_journal.proofs.PlaceLemmas.{AreMade, are_made, room_within}
 pub use Rattle.file_journal.proofs.ReadingLemmas.{all_whole}
-pub use Rattle.file_journal.proofs.RestoringLemmas.{runs_same}
+pub use Rattle.file_journal.proofs.RestoringLemmas.{good_header, runs_same}
 pub use Rattle.file_journal.proofs.StandingLemmas.{IsAfter, Written, after_stands, journal_records, stands_after, stepped, steps, written_step}
 pub use Rattle.file_journal.proofs.HoldLemmas.{held_kept, kept_stands, read_stands}
 pub use Rattle.file_journal.proofs.WalkLemmas.{growing_seen, made_there, own_always, own_told, see_same, seen_own_number, own_number, one_step}

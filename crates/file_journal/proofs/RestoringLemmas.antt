@@ -1,5 +1,5 @@
 -- The recovery of a state that is kept.
-use Rattle.std.proofs.Common.{◌≡◌, ◌↔◌, inl, inr, ⊎_elim, ℕ, ◌+◌, ◌<◌, ◌≤◌, Bool, true, false, not, nat_le, nat_lt, List, [], length, take, Option, None, Some, IfSome, Result, Ok, Err, IsErrOf, refl, sym, ◌∙◌, ap, subst, arith}
+use Rattle.std.proofs.Common.{◌≡◌, ◌≢◌, ◌↔◌, inl, inr, ⊎_elim, ℕ, ◌+◌, ◌<◌, ◌≤◌, Bool, true, false, not, nat_le, nat_lt, List, [], length, take, Option, None, Some, IfSome, Result, Ok, Err, IsErrOf, refl, sym, ◌∙◌, ap, subst, arith}
 use Rattle.std.specs.Prelude.{if◌then◌else◌}
 use Rattle.px_base.specs.Outside.{Rose}
 use Rattle.file_journal.specs.Journal as journal
@@ -11,7 +11,7 @@ use Rattle.file_journal.specs.declared.faults.RecoverFault.TheVariants as recove
 use Rattle.file_journal.specs.declared.faults.ReadFault.TheVariants as read
 use Rattle.file_journal.specs.declared.faults.StoreFault.{StoreFault}
 use Rattle.file_journal.specs.declared.faults.StoreFault.TheVariants as fault
-use Rattle.file_journal.proofs.Names.{common_steps, bytes_eq, cases_lt, lt-ltb, le32, Only, Ghosts, RecoversInHalves, ChangesReads, IsQuietNow, Leaves, Reads, Runs, TellsAlike, images_now, Form, standing_of, IsAfterRecovery, IsSameStore, Standing, is_block_number, journal_of, read_half, StandsAt, kept_on, Blocks, HasBlocks, block_in, blocks_on, first_gate, half_gate, half_in, AnswersAll, AppliesAll, Position, StandsOn, left_to_read, Reading, Record, whole, IsRecovering, IsSyncedFirst, Recovers, gate_in, AnswersRecovery, IsRestored, StandsAlike, IsSeenBy, Steps, walked, Stands, damaged_at, number_or, see, stands_of, state, walk, walk_left, Half, Layout, RecoverFault, ReadFault, changes_none, reads_now, stops_on, stops_reads, joined, reads, weaker, alike_on, alike_same, at_told, content_now, if_told, told_before, told_weaker}
+use Rattle.file_journal.proofs.Names.{common_steps, bytes_eq, cases_lt, lt-ltb, le32, Only, Ghosts, RecoversInHalves, ChangesReads, IsQuietNow, Leaves, Reads, Runs, TellsAlike, images_now, Form, standing_of, HasGoodHeader, IsAfterRecovery, IsSameStore, Standing, is_block_number, journal_of, read_half, StandsAt, kept_on, Blocks, HasBlocks, block_in, blocks_on, first_gate, half_gate, half_in, AnswersAll, AppliesAll, Position, StandsOn, left_to_read, Reading, Record, whole, IsRecovering, IsSyncedFirst, Recovers, gate_in, AnswersRecovery, IsRestored, StandsAlike, IsSeenBy, Steps, walked, Stands, damaged_at, number_or, see, stands_of, state, walk, walk_left, Half, Layout, RecoverFault, ReadFault, changes_none, reads_now, stops_on, stops_reads, joined, reads, weaker, alike_on, alike_same, at_told, content_now, if_told, told_before, told_weaker}
 use Rattle.file_journal.proofs.BoundLemmas.{recovers_reads}
 use Rattle.file_journal.proofs.HoldLemmas.{held_kept, quiet_holds}
 use Rattle.file_journal.proofs.LayoutLemmas.{gate_behind}
@@ -151,7 +151,7 @@ runs_read g on same P Q R old mid new fine there back first second =
         rose = λ failed. inl (subst (λ (n : ℕ). Rose n (g.read_faults new)) kept.0 (second.faults.rose (back failed)));
         same = λ still. (second.faults.same (λ q. still (there q)) ∙ kept.0, second.only.same_write_faults ∙ kept.1);
       };
-      stops = stops_on g on old mid new first.lasts kept.0 kept.1 (stops_reads g mid new (same mid) second.only);
+      stops = stops_on g on old mid new first.lasts kept.0 kept.1 (stops_reads g mid new (same mid) second.lasts second.only);
       lasts = on old mid new first.lasts second.lasts;
     }
 
@@ -170,8 +170,8 @@ runs_same g P Q old new there back runs = record {
 
 -- ---- the faults of both
 
-recovery_disk : (e : RecoverFault) → fault_of_recovery e ≡ fault.Disk → e ≡ recovery.Disk
-recovery_disk e is = grind arith
+recovery_fault : (e : RecoverFault) → (fault_of_recovery e ≡ fault.Disk → e ≡ recovery.Disk) × (fault_of_recovery e ≢ fault.OutOfMemory)
+recovery_fault e = (λ is. grind arith, λ is. grind arith)
 
 -- what the answer of a recovery tells of its reading's
 reads_fault : {U T : Type 0} (reading : Result U ReadFault) (result : Result T StoreFault) → IsAnswerOf reading result
@@ -188,6 +188,9 @@ module _ {D S K V C : Type 0} (g : Ghosts D) (steps : Steps S K) (seen : Blocks 
   refused_as : (before : List ℕ) (stands : Standing) → journal_of form.magic form.layout before ≡ stands
       → standing_of form blocks before ≡ see (sees steps seen form law blocks (block_in before)) (stands_of steps.fresh (steps.step (block_in before)) form.layout (half_in form.layout before) blocks stands)
   refused_as before stands is = grind (arith, common_steps)
+
+  pub good_header : (before : List ℕ) (now : V) → standing_of form blocks before ≡ state now → HasGoodHeader (journal_of form.magic form.layout before)
+  good_header before now is = (λ found other. cc (sym is ∙ refused_as before _ other), λ other. cc (sym is ∙ refused_as before _ other))
 
   -- a refusal of the journal
   refused_recovery : {T U : Type 0} (before : List ℕ) (result : Result T StoreFault) (e : RecoverFault) → recovering.RefusesExactly {T = U} form.magic form.layout before (Err e) → result ≡ Err (fault_of_recovery e)
@@ -208,7 +211,8 @@ module _ {D S K V C : Type 0} (g : Ghosts D) (steps : Steps S K) (seen : Blocks 
         refuses = λ healthy room. told_weaker (g.content old) _ _ (λ before told refuses. refused_recovery before result e refuses is healthy) (refuses (λ was. healthy (there was)));
         untouched = λ found was. same (λ disk. cc (there disk, was));
         untouched_damage = λ at was. same (λ disk. cc (there disk, was));
-        runs = runs_same g _ _ old new there (λ was. ap Err (recovery_disk e (cc (is, was)))) runs;
+        memory = λ was. absurd ((recovery_fault e).1 (cc (is, was)));
+        runs = runs_same g _ _ old new there (λ was. ap Err ((recovery_fault e).0 (cc (is, was)))) runs;
         since_start = leaves_alike steps seen form law blocks g old new new since_start;
         since_sync = told_weaker (g.content old) _ _ (λ before told left. ⊎_elim (λ synced. inl (synced_alike steps seen form law blocks g old new new before (changes_none g new) synced)) (λ failed. inr (there failed.0, failed.1)) left) since_sync;
         within = within;
@@ -302,6 +306,8 @@ module _ {D S K V C : Type 0} (g : Ghosts D) (steps : Steps S K) (seen : Blocks 
   answers_read on same old mid new first start now reading result is fresh recovered refuses runs since_start since_sync within all run =
       let faults = reads_fault reading result is in
       let fine : ¬ IsErrOf (Ok first) recovery.Disk = λ failed. cc in
+      let good : IfSome (g.content old) (λ before. HasGoodHeader (journal_of form.magic form.layout before)) =
+      told_weaker (g.content old) _ _ (λ before told refuses. (λ found no. cc ((refuses.not_a_store found).1 no), λ bad. cc ((refuses.damaged 8).1 (refl, bad)))) (refuses fine) in
       record {
         refuses = λ healthy room. if_told (g.content old) _ (λ before told.
             let left = all_left old mid new first start recovered fine runs fresh run before told in
@@ -310,8 +316,9 @@ module _ {D S K V C : Type 0} (g : Ghosts D) (steps : Steps S K) (seen : Blocks 
         untouched = λ found was. absurd (faults.3 found was);
         untouched_damage = λ at was.
             let damage = faults.2 at was in
-            damage_leaves old mid new first start recovered fine runs fresh run at (told_weaker (g.content old) _ _ (λ before told refuses bad. cc ((refuses.damaged 8).1 (refl, bad))) (refuses fine))
+            damage_leaves old mid new first start recovered fine runs fresh run at (told_weaker (g.content old) _ _ (λ before told header. header.1) good)
             (told_weaker (g.content mid) _ _ (λ octets told applies. (applies.damaged at).0 damage) (all (λ disk. cc (disk, damage)) (λ memory. cc (memory, damage))));
+        memory = λ was. good;
         runs = runs_read g on same _ _ _ old mid new fine faults.0.0 faults.0.1 runs run;
         since_start = told_weaker (g.content old) _ _ (λ before told left.
             joined g.moment g.images_since old mid new (StandsAlike form blocks before) left (reads g.moment g.images_since mid new (StandsAlike form blocks before) run.only.same_moment run.only.same_past))

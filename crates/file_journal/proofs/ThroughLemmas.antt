@@ -1,7 +1,7 @@
 -- What stands on the disk from the recovery of a state on, through commands.
 use Rattle.std.proofs.Common.{◌≡◌, ◌≢◌, ◌⊎◌, inl, inr, ⊎_elim, ℕ, ◌+◌, ◌≤◌, List, ◌++◌, length, Some, IfSome, refl, ◌∙◌, ap, subst, arith, length-append, ◌<◌, Bool, true, false, [], sym}
 use Rattle.file_journal.specs.Through.{HadRoom, StandsThrough}
-use Rattle.file_journal.proofs.Names.{among_on, puts_among, puts_among_same, puts_among_then, some_one, some_still, ⊤, Ghosts, CountsSome, PutsAmongReads, Leaves, Runs, TellsAlike, MakesFirst, StayDone, calls_of, done_at, Form, StandsFor, TellsItsNumber, standing_of, Course, DoesInTurn, IsCut, KeptOn, IsSyncedFirst, StandsAlike, state, joined, weaker, alike_on, at_told, if_told, knew, known_told, knows_on, told_before, told_weaker, Halves, common_steps, DoesAmongReads, among_reads, one_if, ChangesReads, CountsFault, Puts, Reads, Does, IsKept, alone, kept_on, Position, changes_none, changes_on, counts_on, counts_same, reads, alike_same}
+use Rattle.file_journal.proofs.Names.{puts_among, puts_among_reads, puts_among_same, puts_among_then, some_one, some_still, ⊤, Ghosts, CountsSome, Leaves, TellsAlike, MakesFirst, StayDone, calls_of, done_at, Form, StandsFor, TellsItsNumber, standing_of, Course, DoesInTurn, IsCut, KeptOn, IsSyncedFirst, StandsAlike, state, joined, weaker, alike_on, at_told, if_told, knew, known_told, knows_on, told_before, told_weaker, Halves, common_steps, DoesAmongReads, among_reads, one_if, ChangesReads, Reads, Does, IsKept, alone, kept_on, Position, changes_none, changes_on, reads}
 use Rattle.file_journal.proofs.BoundLemmas.{halves_reads}
 use Rattle.file_journal.proofs.CommandLemmas.{at_all, at_first, makes_none, paced_always, rises_all, rises_calls, room_some}
 use Rattle.file_journal.proofs.DoesLemmas.{turn_both, turn_course, turn_none, turn_then}
@@ -12,11 +12,11 @@ use Rattle.file_journal.proofs.KeptLemmas.{images_here}
 module _ {D : Type 0} (g : Ghosts D) where
   module _ {S C : Type 0} (form : Form S C) where
     -- one run of reads, which failed or didn't
-    pub reads_only : (failed : Bool) (now : S) (journal : Position) (old new : D) → Reads g (failed ≡ true) old new → journal.failed ≡ false → IsKept g form (kept_on now journal old)
+    pub reads_only : (failed : Bool) (now : S) (journal : Position) (old new : D) → g.lasts old old → Reads g (failed ≡ true) old new → journal.failed ≡ false → IsKept g form (kept_on now journal old)
         → DoesAmongReads g form ⊥ (one_if failed) [] (kept_on now journal old) (kept_on now journal new)
-    reads_only failed now journal old new run healthy stands =
+    reads_only failed now journal old new same run healthy stands =
         turn_none g form (among_reads g ⊥ (one_if failed)) ⊥ now journal old new (λ never. never) (grind (arith, common_steps)) healthy (grind (arith, common_steps)) run.only.same_moment run.only
-        (grind (arith, common_steps)) (some_one _ _ failed run.faults) (halves_reads g form.layout journal.blocks old new run.only)
+        (puts_among_reads g (failed ≡ true) ⊥ old new same (λ never. never) run) (some_one _ _ failed run.faults) (halves_reads g form.layout journal.blocks old new run.only)
 
     -- commands alone
     pub among_does : (P : Type 0) (commands : List C) (old new : KeptOn D S) → Does g form P commands old new → DoesAmongReads g form P 0 commands old new

@@ -1,5 +1,5 @@
 -- What is made of a ledger by the records of a journal.
-use Rattle.std.specs.Prelude.{◌≡◌, ◌↔◌, ℕ, ◌+◌, List, [], ◌∷◌, length, Bool, true, false, Option, Some, IfSome, Result, Ok, IsErrOf, OnOk}
+use Rattle.std.specs.Prelude.{◌≡◌, ◌↔◌, ℕ, ◌+◌, List, [], ◌∷◌, length, Bool, true, false, Option, Some, IsSome, IfSome, Result, Ok, IsErrOf, OnOk}
 use Rattle.file_journal.specs.Layout.{Blocks, block_in}
 use Rattle.file_journal.specs.Position.{Position, left_to_read}
 use Rattle.file_journal.specs.Records.{Reading, Record, whole, with_record, with_records}
@@ -18,6 +18,18 @@ abbrev pub AppliesSome : {S : Type 0} → (Blocks → S → Record → Option S)
 AppliesSome step journal before now octets =
     (entries : List Record) × (later : Reading) × (left_to_read journal octets ≡ with_records entries later)
     × Takes (step (block_in octets)) before entries now
+
+-- the first record of what was read is one that the state allows
+abbrev pub AllowsNext : {S : Type 0} → (S → Record → Option S) → S → Reading → Type 0
+AllowsNext step now reading =
+    (entry : Record) × (later : Reading) × (reading ≡ with_record entry later) × IsSome (step now entry)
+
+-- the state is the one after some of the records that were left, in order from the first, each of which is allowed, and
+-- it allows the next one, for which memory may be wanted
+abbrev pub WantsMemory : {S : Type 0} → (Blocks → S → Record → Option S) → Position → S → S → List ℕ → Type 0
+WantsMemory step journal before now octets =
+    (entries : List Record) × (later : Reading) × (left_to_read journal octets ≡ with_records entries later)
+    × Takes (step (block_in octets)) before entries now × AllowsNext (step (block_in octets)) now later
 
 -- All that is left is read and applied, and the state is the one that this comes to; or it comes to damage, and
 -- `Damaged` is answered exactly there.

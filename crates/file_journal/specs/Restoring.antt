@@ -4,7 +4,7 @@ use Rattle.disk_model.specs.declared.disk.Disk.{Ghosts}
 use Rattle.file_journal.specs.Bounds.{RecoversInHalves}
 use Rattle.disk_model.specs.Runs.{IsQuietNow, Leaves, Runs, TakesStep}
 use Rattle.file_journal.specs.Form.{Form, standing_of}
-use Rattle.file_journal.specs.Journal.{IsAfterRecovery}
+use Rattle.file_journal.specs.Journal.{HasGoodHeader, IsAfterRecovery, journal_of}
 use Rattle.file_journal.specs.Kept.{IsKept, KeptOn}
 use Rattle.file_journal.specs.Recovery.{IsFailedSync, IsRecovering, IsSyncedFirst, number_in}
 use Rattle.file_journal.specs.Walk.{damaged_at, no_store, state}
@@ -54,14 +54,18 @@ LeavesAlikeSinceSync g form blocks result disk disk_now =
     ⊎ (IsErrOf result fault.Disk × IsFailedSync g disk disk_now))
 
 -- What a recovery answers and leaves on the disk, whether it is refused or not. But for a fault of the disk and want of
--- memory each refusal comes exactly where the content stands for it, and leaves it as it was. A crash since the start
--- leaves what it might have left before, or what stands for the same; since the end of the first sync the latter, but
--- where that sync failed. In two halves nothing is written behind the store whose block number it has, or gets.
+-- memory each refusal comes exactly where the content stands for it, and leaves it as it was. Want of memory comes only
+-- where the content is that of a store, or of none yet. A crash since the start leaves what it might have left before,
+-- or what stands for the same; since the end of the first sync the latter, but where that sync failed. In two halves
+-- nothing is written behind the store whose block number it has, or gets.
 pub record AnswersRecovery {D S C T : Type 0} (g : Ghosts D) (form : Form S C) (blocks : ℕ)
     (result : Result T StoreFault) (disk disk_now : D) : Type 0 where
   pub refuses : RefusesRecovery form blocks (g.content disk) result
   pub untouched : (found : List ℕ) → IsErrOf result (fault.NotAStore found) → g.content disk_now ≡ g.content disk
   pub untouched_damage : (at : ℕ) → IsErrOf result (fault.Damaged at) → g.content disk_now ≡ g.content disk
+  pub memory :
+      IsErrOf result fault.OutOfMemory
+      → IfSome (g.content disk) (λ before. HasGoodHeader (journal_of form.magic form.layout before))
   pub runs : Runs g (IsErrOf result fault.Disk) disk disk_now
   pub since_start : Leaves g disk disk_now (StandsAlike form blocks)
   pub since_sync : LeavesAlikeSinceSync g form blocks result disk disk_now

@@ -1,15 +1,15 @@
 //! What the records of a journal are applied to.
 
 ghost use Rattle.std.specs.Prelude.{◌≡◌, ◌+◌, ◌^◌, ◌<◌, ◌≤◌, ℕ, List, [], ◌∷◌, length, true, false, Option, None};
-ghost use Rattle.std.specs.Prelude.{Some, IfSome, IsErrOf};
+ghost use Rattle.std.specs.Prelude.{Some, IsSome, IfSome, IsErr, IsErrOf};
 ghost use Rattle.std.specs.Prelude.{IfOk, OnErr, OnOk};
 ghost use Rattle.disk_model.specs.Runs.{Reads};
 ghost use Rattle.file_journal.specs.Form.{Form};
 ghost use Rattle.file_journal.specs.Header.{AreBlocks};
-ghost use Rattle.file_journal.specs.Ledger.{AnswersAll, AppliesNext, AppliesSome};
+ghost use Rattle.file_journal.specs.Ledger.{AllowsNext, AnswersAll, AppliesNext, AppliesSome, WantsMemory};
 ghost use Rattle.file_journal.specs.Layout.{Blocks, HasBlocks, block_in, blocks_on};
 ghost use Rattle.file_journal.specs.Next.{IsReadable};
-ghost use Rattle.file_journal.specs.Position.{StandsOn};
+ghost use Rattle.file_journal.specs.Position.{StandsOn, left_to_read};
 ghost use Rattle.file_journal.specs.Records.{Record, record_of};
 ghost use Rattle.file_journal.specs.declared.layout.Layout.TheVariants as Layout;
 ghost use Rattle.file_journal.specs.declared.ledger.RecordPlace.{RecordPlace};
@@ -80,8 +80,8 @@ pub trait Ledger: Drop {
     /// Applies a record that was read, and answers whether the state allows it; one that it doesn't allow changes
     /// nothing. The content has at most 600 octets. It may read blocks of the disk, by the journal. Takes memory.
     ///
-    /// `Disk`: a read of the disk failed, and the ledger is as it was. `OutOfMemory`: nothing is said of the ledger any
-    /// more.
+    /// `Disk`: a read of the disk failed. `OutOfMemory`: there was no memory for what the record makes, which the state
+    /// allows. After both the ledger is as it was.
     fn apply<D: Disk>(
         &mut self,
         journal: &Journal,
@@ -101,7 +101,9 @@ pub trait Ledger: Drop {
         ensures refused { result ≡ Ok false → Knows form (D.content disk.old)
             → steps.step (blocks_on (D.content disk.old)) (state self.old) (record_of kind content.now) ≡ None }
         ensures same { result ≡ Ok false → self.new ≡ self.old }
-        ensures untouched { IsErrOf result ApplyFault.Disk → self.new ≡ self.old }
+        ensures memory { IsErrOf result ApplyFault.OutOfMemory → Knows form (D.content disk.old)
+            → IsSome (steps.step (blocks_on (D.content disk.old)) (state self.old) (record_of kind content.now)) }
+        ensures untouched { IsErr result → self.new ≡ self.old }
         ensures number { OnOk result (steps.number (steps.kept (state self.new))
             ≡ steps.number (steps.kept (state self.old))) }
         ensures by_records { OnOk result (by_records self.new) }
@@ -147,9 +149,9 @@ impl Journal {
     ///
     /// `Damaged`: what is left comes to damage at this place: a record that the state before it doesn't allow, or,
     /// where each before it is allowed, a gate that isn't there, or an open one that no whole record with a gate behind
-    /// it follows, in the half of the journal's records. After it and
-    /// after `Disk` the ledger has the state after some of the records, from the first on; after `OutOfMemory` nothing
-    /// is said of it. The journal stays on its disk, and no octet is changed.
+    /// it follows, in the half of the journal's records. `OutOfMemory`: the next record that is left is one that the
+    /// ledger's state allows, and there was no memory for what it makes. After an error the ledger has the state after
+    /// some of the records, from the first on. The journal stays on its disk, and no octet is changed.
     pub fn read_into<D: Disk, L: Ledger>(
         &mut self,
         disk: &mut D,
@@ -171,8 +173,10 @@ impl Journal {
         ensures by_records { OnOk result (L.by_records ledger.new) }
         ensures number { OnOk result (L.steps.number (L.steps.kept (L.state ledger.new))
             ≡ L.steps.number (L.steps.kept (L.state ledger.old))) }
-        ensures some { ¬ IsErrOf result ReadFault.OutOfMemory → IfSome (D.content disk.old)
+        ensures some { IfSome (D.content disk.old)
             (AppliesSome L.steps.step self.old (L.state ledger.old) (L.state ledger.new)) }
+        ensures memory { IsErrOf result ReadFault.OutOfMemory → IfSome (D.content disk.old)
+            (WantsMemory L.steps.step self.old (L.state ledger.old) (L.state ledger.new)) }
         ensures reads { Reads D.Disk (IsErrOf result ReadFault.Disk) disk.old disk.new }
     {
         let end = self.readable(disk.len()?);
@@ -208,7 +212,9 @@ impl Journal {
         ensures by_records { OnOk result (L.by_records ledger.new) }
         ensures number { OnOk result (L.steps.number (L.steps.kept (L.state ledger.new))
             ≡ L.steps.number (L.steps.kept (L.state ledger.old))) }
-        ensures same { ¬ IsErrOf result ReadFault.OutOfMemory → OnErr result (ledger.new ≡ ledger.old) }
+        ensures memory { IsErrOf result ReadFault.OutOfMemory → IfSome (D.content disk.old) (λ octets.
+            AllowsNext (L.steps.step (block_in octets)) (L.state ledger.old) (left_to_read self.old octets)) }
+        ensures same { OnErr result (ledger.new ≡ ledger.old) }
         ensures reads { Reads D.Disk (IsErrOf result ReadFault.Disk) disk.old disk.new }
     {
         let gate = self.place();

@@ -50,12 +50,12 @@ module _ {D : Type 0} (g : Ghosts D) where
 
   -- ---- among reads
 
-  pub reads-only : (failed : Bool) (self : StoreState) (old new : D) → Reads g (failed ≡ true) old new → IsReady g self old
+  pub reads-only : (failed : Bool) (self : StoreState) (old new : D) → g.lasts old old → Reads g (failed ≡ true) old new → IsReady g self old
       → DoesAmongReads g ⊥ (one_if failed) self self old new []
-  reads-only failed self old new reads ready =
+  reads-only failed self old new same reads ready =
       subst (λ (k : KeptOn D Store). among.DoesAmongReads g store_form ⊥ (one_if failed) [] (kept_at g self old) k)
       (ap (λ (o : Option (List ℕ)). kept_on (seen (blocks_on o) (placed_in self)) self.journal new) (sym reads.only.same_content))
-      (reads_only g store_form failed (store_on g self old) self.journal old new reads ready.healthy (kept-on self old ready.stands_on))
+      (reads_only g store_form failed (store_on g self old) self.journal old new same reads ready.healthy (kept-on self old ready.stands_on))
 
   pub does-among : (P : Type 0) (old new : StoreState) (disk disk_now : D) (commands : List Command) → Does g P old new disk disk_now commands → DoesAmongReads g P 0 old new disk disk_now commands
   does-among P old new disk disk_now commands = among_does g store_form P commands (kept_at g old disk) (kept_at g new disk_now)

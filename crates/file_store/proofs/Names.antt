@@ -28,7 +28,7 @@ pub use Rattle.file_entries.specs.IsStore.{IsStore}
 pub use Rattle.file_entries.specs.Kept.{KeepsComplete}
 pub use Rattle.file_entries.specs.Limits.{last_next, longest_file, most_entries}
 pub use Rattle.file_entries.specs.Store.{Entry, Holding, Store, blocks_for, blocks_of, complete, entry_count, entry_of, free_blocks, holding_of, new_entry, octets_at, octets_of, partial, store_from}
-pub use Rattle.file_journal.proofs.Offered.{among_does, among_same, among_then, does_longer, does_none, does_same, does_then, first_all, first_then, held_kept, images_here, knew, knows_on, makes_first, makes_within, reads_only, same_on, stands_through}
+pub use Rattle.file_journal.proofs.Offered.{among_does, among_same, among_then, does_longer, does_none, does_same, does_then, first_all, first_then, good_header, held_kept, images_here, knew, knows_on, makes_first, makes_within, reads_only, same_on, stands_through}
 pub use Rattle.file_journal.specs.AmongReads.{among_reads}
 pub use Rattle.file_journal.specs.Kept.{HasRoomFor, IsKept, KeptOn, StandsAt, kept_on}
 pub use Rattle.file_journal.specs.Layout.{Blocks, blocks_on}
@@ -40,7 +40,7 @@ pub use Rattle.file_store.specs.Kept.{ChangesEntry, KeepsOtherFiles, KeepsOthers
 pub use Rattle.file_store.specs.Laws.{HoldsInEach, IsKeptInEach, IsKeptOn, ReceiptLaw, StandsInEach}
 pub use Rattle.file_store.specs.OnDisk.{Does, DoesTo, MakesBetween, after_first, kept_at, outlined_all, outlined_command}
 pub use Rattle.file_store.specs.Recovery.{RefusesRecovery, StandsAlike}
-pub use Rattle.file_store.specs.State.{IsKnown, IsReady, StandsFor, StandsOn, StoreState, placed_in, rest_in, standing_of, state_from, store_form, store_in, store_on}
+pub use Rattle.file_store.specs.State.{IsKnown, IsReady, StandsFor, StandsOn, StoreState, placed_in, rest_in, standing_of, state_from, store_form, store_in, store_layout, store_magic, store_on}
 pub use Rattle.file_store.specs.Upload.{FillsBlock, FitsBytes, FitsWaiting, HasEntry, Holds, IsWholeWaiting, Upload, appended, appending, came, come_of, ending, entry_for, held_whole, kept_file, new_upload, octets_come, sealing, upload_from, upload_of, upload_stamp, waiting, waiting_with, with_bytes}
 pub use Rattle.file_store.specs.Working.{CutsOffAmongReads, DoesAmongReads, PutsAmongReads}
 pub use Rattle.file_store.specs.declared.change.EntriesChange.{EntriesChange}

@@ -2,6 +2,7 @@
 pub use Rattle.file_store.proofs.DoesLemmas.{after_first-all, after_first-then, among-at, among-healthy, among-parked, among-same, among-store, among-then, cuts-among-all, cuts-among-none, cuts-among-puts, cuts-among-same, cuts-among-then, does-among, Does-moved, Does-none, Does-same, makes-first, makes-within, reads-only}
 pub use Rattle.file_store.proofs.OnLemmas.{in_parked, known_back, known_on, known_told, on_like, on_like_always, on_parked, on_rules, on_rules_always, on_same, on_untold, stands_parked, told_known}
 pub use Rattle.file_store.proofs.ReceiptLemmas.{stays}
+pub use Rattle.file_store.proofs.RecoveryLemmas.{recovered_good}
 pub use Rattle.file_store.proofs.RoomLemmas.{room_for}
 pub use Rattle.file_store.proofs.StandingLemmas.{stands-through}
 pub use Rattle.file_store.proofs.TokenLemmas.{stands-each}

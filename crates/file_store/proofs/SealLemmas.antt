@@ -152,13 +152,13 @@ module _ {D : Type 0} (g : Ghosts D) {T E : Type 0} where
 -- ---- the commands together
 
 module _ {D : Type 0} (g : Ghosts D) (on : (first second third : D) → g.lasts first second → g.lasts second third → g.lasts first third) (old mid : StoreState) (disk disk_mid disk_read : D)
-    (first : List Command) (does : Does g ⊥ old mid disk disk_mid first) (ready : IsReady g mid disk_mid) where
+    (first : List Command) (does : Does g ⊥ old mid disk disk_mid first) (ready : IsReady g mid disk_mid) (same : g.lasts disk_mid disk_mid) where
   -- those that wait became held, and the file was read
   pub held-read : (failed : Bool) → Reads g (failed ≡ true) disk_mid disk_read → DoesAmongReads g ⊥ (one_if failed) old mid disk disk_read first
   held-read failed reads =
       among-at g ⊥ (one_if failed) old mid disk disk_read (first ++ []) first (append-nil first)
       (among-same g ⊥ ⊥ (0 + one_if failed) (one_if failed) old mid disk disk_read (first ++ []) (λ never. never) (λ never. never) (zero-add (one_if failed))
-      (among-then g on ⊥ ⊥ 0 (one_if failed) old mid mid disk disk_mid disk_read first [] (λ never. never) (does-among g ⊥ old mid disk disk_mid first does) (reads-only g failed mid disk_mid disk_read reads ready)))
+      (among-then g on ⊥ ⊥ 0 (one_if failed) old mid mid disk disk_mid disk_read first [] (λ never. never) (does-among g ⊥ old mid disk disk_mid first does) (reads-only g failed mid disk_mid disk_read same reads ready)))
 
   -- and then it was ended
   pub held-ended : (P : Type 0) (new : StoreState) (disk_now : D) (command : Command) → Reads g (false ≡ true) disk_mid disk_read → Does g P mid new disk_read disk_now (command ∷ [])
@@ -196,7 +196,7 @@ module _ {D : Type 0} (g : Ghosts D) (old : StoreState) (disk : D) (number momen
         file = tt;
       }
 
-  module _ (on : (first second third : D) → g.lasts first second → g.lasts second third → g.lasts first third) (mid : StoreState) (disk_mid disk_read : D)
+  module _ (same : (disk : D) → g.lasts disk disk) (on : (first second third : D) → g.lasts first second → g.lasts second third → g.lasts first third) (mid : StoreState) (disk_mid disk_read : D)
       (does : DoesTo g (false ≡ true) old mid disk disk_mid (last_grow number rest) number) where
     made : store_in mid ≡ after_all (store_in old) (outlined_all (last_grow number rest))
     made = does.whole (λ e. cc e)
@@ -247,7 +247,7 @@ module _ {D : Type 0} (g : Ghosts D) (old : StoreState) (disk : D) (number momen
               });
           does =
               among-same g ⊥ (false ≡ true) 1 1 old mid disk disk_read (last_grow number rest) (λ never. absurd never) (λ e. cc e) refl
-              (held-read g on old mid disk disk_mid disk_read (last_grow number rest) all-held mid-ready true (reads_same g disk_mid disk_read failed (true ≡ true) there back reads));
+              (held-read g on old mid disk disk_mid disk_read (last_grow number rest) all-held mid-ready (same disk_mid) true (reads_same g disk_mid disk_read failed (true ≡ true) there back reads));
           leaves = leaves-read g old mid disk_mid disk_read number stands (held-leaves g old mid disk disk_mid number rest does);
           file = mid-is old mid number whole made out;
         }
@@ -260,7 +260,7 @@ module _ {D : Type 0} (g : Ghosts D) (old : StoreState) (disk : D) (number momen
       both = leaves-then g old mid new disk_mid disk_now number (held-leaves g old mid disk disk_mid number rest does) last
 
       ended : (P : Type 0) (command : Command) → Does g P mid new disk_read disk_now (command ∷ []) → DoesAmongReads g P 0 old new disk disk_now (last_grow number rest ++ command ∷ [])
-      ended P command = held-ended g on old mid disk disk_mid disk_read (last_grow number rest) all-held mid-ready P new disk_now command read-fine
+      ended P command = held-ended g on old mid disk disk_mid disk_read (last_grow number rest) all-held mid-ready (same disk_mid) P new disk_now command read-fine
 
       -- in their order
       in-order : (P : Type 0) (command : Command) → Does g P mid new disk_read disk_now (command ∷ []) → EndsInOrder g P false (at old disk) (at new disk_now) (last_grow number rest) (command ∷ [])

@@ -8,7 +8,7 @@ ghost use Rattle.std.specs.Option.{option_map};
 ghost use Rattle.disk_model.specs.Disk.{FillsRoom};
 ghost use Rattle.file_journal.specs.Bounds.{RecoversInHalves};
 ghost use Rattle.disk_model.specs.Runs.{Leaves, Reads, Runs, TakesStep};
-ghost use Rattle.file_journal.specs.Journal.{IsAfterRecovery};
+ghost use Rattle.file_journal.specs.Journal.{HasGoodHeader, IsAfterRecovery, journal_of};
 ghost use Rattle.file_entries.specs.Command.{after, after_all, begin, drop_entry, grow, last_grow, seal};
 ghost use Rattle.file_entries.specs.Command.{unfilled_block, whole_grows};
 ghost use Rattle.file_entries.specs.Faults.{fault_code};
@@ -110,6 +110,10 @@ impl FileStore {
         ensures untouched_damage { (at : ℕ) → IsErrOf result (StoreFault.Damaged at)
             → D.content disk.new ≡ D.content disk.old }
         ensures runs { Runs D.Disk (IsErrOf result StoreFault.Disk) disk.old disk.new }
+
+        // Memory is wanted only where the content is that of a store, or of none yet.
+        ensures memory { IsErrOf result StoreFault.OutOfMemory → IfSome (D.content disk.old)
+            (λ before. HasGoodHeader (journal_of store_magic store_layout before)) }
 
         // A crash since the start leaves what it might have left before, or what stands for the same, and a store
         // formatted to its end as it is; since the end of the first sync the latter, but where that sync failed.

@@ -14,7 +14,7 @@ pub use Rattle.ax25_link.specs.declared.state.LinkState.TheVariants.{Down, Up}
 pub use Rattle.disk_model.specs.AtDisk.{AtDisk, at}
 pub use Rattle.disk_model.specs.declared.disk.Disk.{Ghosts}
 pub use Rattle.disk_model.specs.declared.disk.DiskFault.{DiskFault}
-pub use Rattle.file_store.proofs.Offered.{Does-none, after_all-append, among-at, among-parked, among-same, among-store, among-then, cuts-among-all, cuts-among-then, does-among, in_parked, known_back, known_on, makes-first, makes-within, on_parked, on_untold, puts-among, puts-among-reads, puts-among-same, puts-among-then, puts_none, stands_parked, told_weaker, weaker}
+pub use Rattle.file_store.proofs.Offered.{Does-none, after_all-append, among-at, among-parked, among-same, among-store, among-then, cuts-among-all, cuts-among-then, does-among, in_parked, known_back, known_on, makes-first, makes-within, on_parked, on_untold, puts-among, puts-among-reads, puts-among-same, puts-among-then, puts_none, recovered_good, stands_parked, told_weaker, weaker}
 pub use Rattle.file_store.specs.Command.{Command, after_all}
 pub use Rattle.file_store.specs.EntriesKept.{KeepsComplete}
 pub use Rattle.file_store.specs.Position.{Position}

@@ -3,7 +3,7 @@ use Rattle.std.proofs.Common.{◌≡◌, ◌↔◌, ℕ, List, Option, inl, inr,
 use Rattle.file_store.specs.Recovery.{LeavesAlikeSinceSync, RefusesRecovery}
 use Rattle.file_store.specs.StoreFault.{StoreFault}
 use Rattle.file_store.specs.StoreFault.TheVariants as fault
-use Rattle.ftl0_server.proofs.Names.{Result, Ok, Err, IsErrOf, Ghosts, told_weaker}
+pub use Rattle.ftl0_server.proofs.Names.{Result, Ok, Err, IsErrOf, Ghosts, recovered_good, told_weaker}
 
 -- two answers of which each is the same fault as the other, if it is one
 abbrev pub FaultsAlike : {A B : Type 0} → Result A StoreFault → Result B StoreFault → Type 0

@@ -1,13 +1,14 @@
 //! The server.
 
-ghost use Rattle.std.specs.Prelude.{◌≡◌, ◌<◌, ◌≤◌, ℕ, [], false, true, IfErr, IfOk, IsErrOf, None, Ok, OnOk, Some};
+ghost use Rattle.std.specs.Prelude.{◌≡◌, ◌<◌, ◌≤◌, ℕ, [], false, true, IfErr, IfOk, IfSome, IsErrOf, None, Ok};
+ghost use Rattle.std.specs.Prelude.{OnOk, Some};
 ghost use Rattle.std.specs.List.{position};
 ghost use Rattle.ax25_frames.specs.Values.{value_of};
 ghost use Rattle.ax25_link.specs.Window.{IsGoodK, window_of};
 ghost use Rattle.file_store.specs.IsStore.{IsStore};
 ghost use Rattle.file_store.specs.Bounds.{RecoversInHalves};
 ghost use Rattle.disk_model.specs.Runs.{Leaves, Runs, TakesStep};
-ghost use Rattle.file_store.specs.Journal.{IsAfterRecovery};
+ghost use Rattle.file_store.specs.Journal.{HasGoodHeader, IsAfterRecovery, journal_of};
 ghost use Rattle.file_store.specs.Recovery.{IsRecovered, LeavesAlikeSinceSync, RefusesRecovery, StandsAlike};
 ghost use Rattle.file_store.specs.State.{IsRead, IsReady, store_in, store_layout, store_magic, store_on};
 ghost use Rattle.file_store.specs.Store.{Store};
@@ -98,6 +99,8 @@ impl Server {
         ensures untouched_damage { (at : ℕ) → IsErrOf result (StoreFault.Damaged at)
             → D.content disk.new ≡ D.content disk.old }
         ensures runs { Runs D.Disk (IsErrOf result StoreFault.Disk) disk.old disk.new }
+        ensures memory { IsErrOf result StoreFault.OutOfMemory → IfSome (D.content disk.old)
+            (λ before. HasGoodHeader (journal_of store_magic store_layout before)) }
         ensures since_start { Leaves D.Disk disk.old disk.new (StandsAlike limits.blocks) }
         ensures since_sync { LeavesAlikeSinceSync D.Disk limits.blocks result disk.old disk.new }
         ensures octets { OnOk result

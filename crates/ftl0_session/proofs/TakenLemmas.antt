@@ -83,14 +83,14 @@ module _ {D : Type 0} (g : Ghosts D) where
   }
 
   -- a row without commands, over a store that stays
-  still : (moment : ℕ) (item : Item) (old new : SessionState) (store : StoreState) (lists lists_now : List CallerList) (disk disk_now : D) (replies : List ℕ) (fails : Bool) → Reads g (IsTrue fails) disk disk_now
+  still : (moment : ℕ) (item : Item) (old new : SessionState) (store : StoreState) (lists lists_now : List CallerList) (disk disk_now : D) (replies : List ℕ) (fails : Bool) → g.lasts disk disk → Reads g (IsTrue fails) disk disk_now
       → (IsKnown g disk → GivesStill (packet_row g (packet_of (caller_of old) moment item) (at_work old (working_on store lists disk)) fails) fails lists_now (state_in store new) replies)
       → ((row : Row) → LooksAtNone (packet_of (caller_of old) moment item) (working old store lists) row → (fails ≡ false) × GivesStill row false lists_now (state_in store new) replies) → Says g disk fails replies
       → new.uploads ≡ old.uploads → IsReady g store disk → MayTake g store disk_now lists_now new
       → Taken g (packet_of (caller_of old) moment item) old new (working_on store lists disk) (working_on store lists_now disk_now) replies answered
-  still moment item old new store lists lists_now disk disk_now replies fails reads gives any says same ready may =
+  still moment item old new store lists lists_now disk disk_now replies fails lasts reads gives any says same ready may =
       let fine : ¬ IsErr answered = λ e. cc e in
-      let does : DoesAmongReads g ⊥ (one_if fails) store store disk disk_now [] = reads-only g fails store disk disk_now reads ready in
+      let does : DoesAmongReads g ⊥ (one_if fails) store store disk disk_now [] = reads-only g fails store disk disk_now lasts reads ready in
       record {
         takes = record {
           fails = fails;
@@ -133,7 +133,7 @@ module _ {D : Type 0} (g : Ghosts D) where
       }
 
   module _ (moment : ℕ) (item : Item) (uploads : Uploading) (part part_now : DownloadState) (store : StoreState) (lists lists_now : List CallerList) (disk disk_now : D)
-      (none : (files : Store) (fails : Bool) → upload_row uploads.caller moment files (state_in store (session_of uploads part)) item fails ≡ None) (ready : IsReady g store disk)
+      (none : (files : Store) (fails : Bool) → upload_row uploads.caller moment files (state_in store (session_of uploads part)) item fails ≡ None) (lasts : g.lasts disk disk) (ready : IsReady g store disk)
       (may : MayTake g store disk_now lists_now (session_of uploads part_now)) where
     abbrev old : SessionState
     old = session_of uploads part
@@ -145,7 +145,7 @@ module _ {D : Type 0} (g : Ghosts D) where
     pub taken-download : (said replies : List ℕ) → TakesByRow g store (λ there. download_row_of old store there lists item) disk disk_now (made part lists said) (made part_now lists_now replies) true
         → Taken g (packet_of uploads.caller moment item) old (session_of uploads part_now) (working_on store lists disk) (working_on store lists_now disk_now) replies answered
     taken-download said replies takes =
-        still moment item old (session_of uploads part_now) store lists lists_now disk disk_now replies takes.fails takes.reads
+        still moment item old (session_of uploads part_now) store lists lists_now disk disk_now replies takes.fails lasts takes.reads
         (λ known.
         let has = row-taken (download_row uploads.caller files lists (state_in store old) item takes.fails) disk disk_now (made part lists said) (made part_now lists_now replies) (takes.is_row known) in
         let is = row-download uploads.caller moment files lists (state_in store old) item takes.fails has.0 (none files takes.fails) has.1 in
@@ -178,7 +178,7 @@ module _ {D : Type 0} (g : Ghosts D) where
         let passed = takes.passed refl in
         let error_text : replies ≡ texts (error_by (is_upload_kind (kind_of_item item)) ∷ []) =
         text ∙ ap (λ (b : Bool). packet_text (error_by b)) kind ∙ sym (append-nil (packet_text (error_by (is_upload_kind (kind_of_item item))))) in
-        still moment item old (session_of uploads part_now) store lists lists_now disk disk_now replies takes.fails takes.reads
+        still moment item old (session_of uploads part_now) store lists lists_now disk disk_now replies takes.fails lasts takes.reads
         (λ known.
         let none_of = row-passed (download_row uploads.caller files lists (state_in store old) item takes.fails) disk disk_now (made part lists said) (made part_now lists_now given) (takes.is_row known) in
         let is = row-error uploads.caller moment files lists (state_in store old) item takes.fails (none files takes.fails) none_of.0 in

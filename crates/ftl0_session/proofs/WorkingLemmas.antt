@@ -93,9 +93,9 @@ pub record Sent {D : Type 0} (g : Ghosts D) (files : StoreState) (disk disk_now 
   pub does : DoesAmongReads g ⊥ (one_if (tells_failed_read next.packet)) files files disk disk_now []
 
 module _ {D : Type 0} (g : Ghosts D) (files : StoreState) (disk disk_now : D) (state state_now : State) (out out_now : List ℕ) where
-  pub due-among : (puts : PutsDue g (store_on g files disk) (filled disk state out) (filled disk_now state_now out_now) true) → IsReady g files disk → IsKnown g disk
+  pub due-among : g.lasts disk disk → (puts : PutsDue g (store_on g files disk) (filled disk state out) (filled disk_now state_now out_now) true) → IsReady g files disk → IsKnown g disk
       → Sent g files disk disk_now state state_now out_now puts.fails
-  due-among puts ready known =
+  due-among same puts ready known =
       let store : Store = store_on g files disk in
       let has = due-put (next_due store state puts.fails) disk disk_now state state_now out out_now (puts.is_due known) in
       let tells = told-due store state puts.fails has.0 has.1 (puts.told known) in
@@ -107,7 +107,7 @@ module _ {D : Type 0} (g : Ghosts D) (files : StoreState) (disk disk_now : D) (s
         tells = tells;
         does =
             among-same g ⊥ ⊥ (one_if puts.fails) (one_if (tells_failed_read has.0.packet)) files files disk disk_now [] (λ p. p) (λ p. p) (ap one_if (sym tells))
-            (reads-only g puts.fails files disk disk_now puts.reads ready);
+            (reads-only g puts.fails files disk disk_now same puts.reads ready);
       }
 
   -- nothing was due, whether a read fails or none does

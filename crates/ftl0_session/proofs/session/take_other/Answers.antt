@@ -14,7 +14,7 @@ returns-then-take_download-clause-taken g c moment =
     c.args.disk.now c.take_download.new.disk c.requires.may c.take_download.ensures.keeps in
     rw c.take_download.ensures.keeps.stays.same
     (taken-download g.D.Disk moment (item_of c.args.packet) c.args.uploads.now c.args.downloads.now c.take_download.new.downloads c.args.store.now c.args.lists.now c.take_download.new.lists c.args.disk.now
-    c.take_download.new.disk none c.requires.may.ready may c.args.replies.now.items c.take_download.new.replies.items (rw c.if-take_download.true at c.take_download.ensures.takes))
+    c.take_download.new.disk none (g.met.D.Disk.lasts_same c.args.disk.now) c.requires.may.ready may c.args.replies.now.items c.take_download.new.replies.items (rw c.if-take_download.true at c.take_download.ensures.takes))
 
 pub returns-clause-taken : goal.returns-clause-taken
 returns-clause-taken g c moment =
@@ -25,5 +25,5 @@ returns-clause-taken g c moment =
     c.args.disk.now c.take_download.new.disk c.requires.may c.take_download.ensures.keeps in
     rw c.take_download.ensures.keeps.stays.same
     (taken-error g.D.Disk moment (item_of c.args.packet) c.args.uploads.now c.args.downloads.now c.take_download.new.downloads c.args.store.now c.args.lists.now c.take_download.new.lists c.args.disk.now
-    c.take_download.new.disk none c.requires.may.ready may c.args.replies.now.items c.take_download.new.replies.items c.refuse.new.replies.items c.args.of_uploading
+    c.take_download.new.disk none (g.met.D.Disk.lasts_same c.args.disk.now) c.requires.may.ready may c.args.replies.now.items c.take_download.new.replies.items c.refuse.new.replies.items c.args.of_uploading
     c.requires.kind c.refuse.ensures (rw c.if-take_download.false at c.take_download.ensures.takes))

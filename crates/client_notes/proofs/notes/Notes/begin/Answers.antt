@@ -1,4 +1,4 @@
-use Rattle.std.proofs.Common.{◌≡◌, ℕ, ◌+◌, Err, Ok, ◌∙◌, ap, subst, inl, refl}
+use Rattle.std.proofs.Common.{◌≡◌, ℕ, ◌+◌, Err, Ok, ◌∙◌, ap, subst}
 use Rattle.client_notes.specs.declared.refusals.NotesRefusal.TheVariants as refusal
 use Rattle.client_notes.proofs.Names.{⊤, DiskFault, Noting, fresh_task, NotesCommand, start, task_count, NotesState}
 use Rattle.client_notes.proofs.KeptLemmas.{brought-cut, brought-done}

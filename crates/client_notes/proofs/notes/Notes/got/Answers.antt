@@ -1,4 +1,4 @@
-use Rattle.std.proofs.Common.{Err, Ok, subst, inl, refl}
+use Rattle.std.proofs.Common.{Err, Ok, subst}
 use Rattle.client_notes.specs.declared.refusals.NotesRefusal.TheVariants as refusal
 use Rattle.client_notes.proofs.Names.{⊤, DiskFault, Noting, got, NotesState}
 use Rattle.client_notes.proofs.KeptLemmas.{brought-cut, brought-done}

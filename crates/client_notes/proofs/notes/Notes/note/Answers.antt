@@ -1,4 +1,4 @@
-use Rattle.std.proofs.Common.{◌≡◌, Err, Ok, refl, sym, ◌∙◌, ap, subst, inl}
+use Rattle.std.proofs.Common.{◌≡◌, Err, Ok, refl, sym, ◌∙◌, ap, subst}
 use Rattle.file_journal.specs.declared.faults.JournalFault.TheVariants as fault
 use Rattle.client_notes.proofs.Names.{err_from_is_err_and, ⊤, DiskFault, command_value, Answers, NotesState}
 use Rattle.client_notes.proofs.KeptLemmas.{put-answers}

@@ -1,7 +1,7 @@
 -- The recovery's answer is handed on.
 use Rattle.std.proofs.Common.{Err, refl, ◌∙◌, ap}
 use Rattle.std.proofs.lemmas.Result.{err_from_is_err_and}
-use Rattle.ftl0_server.proofs.StartLemmas.{alike-fault, alike-fine, refuses-other, since-other}
+use Rattle.ftl0_server.proofs.StartLemmas.{alike-fault, alike-fine, recovered_good, refuses-other, since-other}
 use Rattle.ftl0_server.proofs.server.Server.start.Goals as goal
 
 pub returns-in_err-store-clause-refuses : goal.returns-in_err-store-clause-refuses
@@ -14,3 +14,9 @@ returns-clause-refuses g c = refuses-other _ _ (alike-fine c.in_ok-store.store _
 
 pub returns-clause-since_sync : goal.returns-clause-since_sync
 returns-clause-since_sync g c = since-other _ _ (alike-fine c.in_ok-store.store _) c.args.limits.blocks g.D.Disk c.args.disk.now c.recover.new.disk c.in_ok-store.ensures.since_sync
+
+pub returns-in_err-lists-clause-memory : goal.returns-in_err-lists-clause-memory
+returns-in_err-lists-clause-memory g c is = recovered_good g.D.Disk c.args.limits.blocks (g.D.Disk.content c.args.disk.now) _ c.in_ok-store.ensures.recovered.content
+
+pub returns-in_err-places-clause-memory : goal.returns-in_err-places-clause-memory
+returns-in_err-places-clause-memory g c is = recovered_good g.D.Disk c.args.limits.blocks (g.D.Disk.content c.args.disk.now) _ c.in_ok-store.ensures.recovered.content

@@ -19,7 +19,7 @@ returns-clause-next g c =
     rw (sym c.self.view_is) (record {
       queues = λ seen.
           let known = known-or (c.fill.ensures.due) (c.if-not-fill.false) seen in
-          let sent = due-among g.D.Disk c.args.store.now _ _ _ _ _ _ c.if-not-fill.ensures.puts c.requires.may.ready known in
+          let sent = due-among g.D.Disk c.args.store.now _ _ _ _ _ _ (g.met.D.Disk.lasts_same c.args.disk.now) c.if-not-fill.ensures.puts c.requires.may.ready known in
           let text : c.deref.result.now ≡ packet_text sent.next.packet = c.deref.ensures.0 ∙ sent.text_is in
           record {
             fails = c.if-not-fill.ensures.puts.fails;
@@ -34,7 +34,7 @@ returns-clause-next g c =
     })
 
 pub returns-then-not-fill-clause-keeps : goal.returns-then-not-fill-clause-keeps
-returns-then-not-fill-clause-keeps g c = grind (arith, common_steps, puts-among-reads, stations-same)
+returns-then-not-fill-clause-keeps g c = grind (arith, common_steps, puts-among-reads, stations-same, g.met.D.Disk.lasts_same c.args.disk.now)
 
 pub returns-clause-keeps : goal.returns-clause-keeps
-returns-clause-keeps g c = grind (arith, common_steps, puts-among-reads)
+returns-clause-keeps g c = grind (arith, common_steps, puts-among-reads, g.met.D.Disk.lasts_same c.args.disk.now)
