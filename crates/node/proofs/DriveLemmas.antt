@@ -2,7 +2,7 @@
 use Rattle.std.proofs.Common.{◌≡◌, ℕ, List, [], ◌++◌, length, Bool, true, false, Option, None, Result, Ok, Err, refl, sym, ap, ◌∙◌, ◌⊎◌, subst, inl, inr, append-nil}
 use Rattle.node.specs.declared.finished.Finished.TheVariants as finished
 use Rattle.node.specs.declared.stop.NodeStop.TheVariants as stop
-use Rattle.node.proofs.Names.{CallSign, Ghosts as AirGhosts, Turn, AtDisk, Course, at, NodeEvent, NodeEvents, Input, inputs_of, octets_in, Brings, inner, on_air, HasHeard, AreHandedOver, Brought, IsOpenBefore, Lent, RanBy, StoppedInLast, TookAll, TookTurns, lent, Finished, OnAir, NodeStop, TurnTerms}
+use Rattle.node.proofs.Names.{CallSign, Ghosts as AirGhosts, Turn, AtDisk, Course, at, NodeEvent, NodeEvents, Input, inputs_of, octets_in, Brings, inner, on_air, HasHeard, AreHandedOver, Brought, IsOpenBefore, LentParty, RanBy, StoppedInLast, TookAll, TookTurns, lent_party, Finished, OnAir, NodeStop, TurnTerms}
 use Rattle.node.proofs.BringsLemmas.{brings-then, events-brought}
 use Rattle.node.proofs.OnAirLemmas.{octets-nil}
 
@@ -21,11 +21,11 @@ module _ {S D : Type 0} (me : S → CallSign) (course : Course S D NodeEvent) (s
       let all = h.0.1 [] octets-nil heard in
       (all.0, node-events turns moments inputs all.0 is same all.1, (all.2.1, h.1.0, h.2))
 
-  open-before : (turns : List Turn) (moments : List ℕ) → IsOpenBefore AreHandedOver (on_air me course) start turns moments → IsOpenBefore (NodeEvents call) course (inner start) turns moments
-  open-before turns moments h earlier next later before behind split moments_split same =
+  open-before : (turns : List Turn) (moments given : List ℕ) → IsOpenBefore AreHandedOver (on_air me course) start turns moments given → IsOpenBefore (NodeEvents call) course (inner start) turns moments given
+  open-before turns moments given h earlier next later before behind split moments_split same =
       let first = h earlier next later before behind split moments_split same in
-      let all = first.4.1 [] octets-nil heard in
-      (all.0, node-events earlier before first.0 all.0 first.1 same all.1, first.2, inner first.3, all.2.1, first.5)
+      let all = first.5.1 [] octets-nil heard in
+      (all.0, node-events earlier before first.0 all.0 first.1 same all.1, first.2, first.3, inner first.4, all.2.1, first.6)
 
   -- what came of it, with the events
   abbrev Ran : List Turn → List ℕ → Result Finished NodeStop → List ℕ → Bool → AtDisk (OnAir S) D → Type 0
@@ -105,9 +105,9 @@ module _ {S D : Type 0} (me : S → CallSign) (course : Course S D NodeEvent) (s
 
 module _ {S D A C : Type 0} (me : S → CallSign) (course : Course S D NodeEvent) (air : AirGhosts A) (given : C → Option (List ℕ)) (terms : TurnTerms) (call : CallSign) where
   -- the turns of the station
-  pub station-turns : (old new : Lent (OnAir S) D A C) (result : Result Finished NodeStop) → me old.party.station ≡ call → HasHeard old.party.reader []
+  pub station-turns : (old new : LentParty (OnAir S) D A C) (result : Result Finished NodeStop) → me old.party.station ≡ call → HasHeard old.party.reader []
       → TookTurns AreHandedOver (on_air me course) air given old new terms result
-      → TookTurns (NodeEvents call) course air given (lent old.party.station old.disk old.air old.clock) (lent new.party.station new.disk new.air new.clock) terms result
+      → TookTurns (NodeEvents call) course air given (lent_party old.party.station old.disk old.air old.clock) (lent_party new.party.station new.disk new.air new.clock) terms result
   station-turns old new result own heard h =
       let start = at old.party old.disk in
       let all = ran me course start call own heard h.all result h.text h.unsaid (at new.party new.disk) h.brings h.one_each h.ran in
@@ -121,7 +121,7 @@ module _ {S D A C : Type 0} (me : S → CallSign) (course : Course S D NodeEvent
         brings = all.1;
         bound = h.bound;
         ends = h.ends;
-        open_before = open-before me course start call own heard h.all.turns h.all.moments h.open_before;
+        open_before = open-before me course start call own heard h.all.turns h.all.moments h.text h.open_before;
         counts = h.counts;
         unsaid = h.unsaid;
         is_unsaid = h.is_unsaid;

@@ -2,7 +2,7 @@
 use Rattle.std.proofs.Common.{◌≡◌, ℕ, List, [], ◌∷◌, ◌++◌, refl, sym, ap, ◌∙◌, subst, inl, inr, append_assoc, append-nil}
 use Rattle.px_base.specs.declared.air.Turn.TheVariants as turn
 use Rattle.std.specs.Prelude.{◌==◌, if◌then◌else◌}
-use Rattle.node.proofs.Names.{CallSign, octets_heard, octets_of_turn, Turn, Bool, true, false, drop, kiss_frames, kiss_parts, FrameValue, IsOneFrame, FramesFor, NodeEvent, NodeEvents, TurnsBring, frames_in, heard_at, tick_of, tick_since, ticks}
+use Rattle.node.proofs.Names.{CallSign, octets_heard, octets_of_turn, Turn, Bool, true, false, drop, kiss_frames, kiss_parts, FrameValue, IsOneFrame, FramesFor, NodeEvent, NodeEvents, TurnsBring, frames_in, heard_at, tick_of, ticks}
 
 -- frames of texts and of others
 frames-append : (me : CallSign) (texts others : List (List ℕ)) (frames more : List FrameValue) → FramesFor me texts frames → FramesFor me others more → FramesFor me (texts ++ others) (frames ++ more)
@@ -46,12 +46,9 @@ no-frames-if : (same : Bool) (moment : ℕ) (later : List NodeEvent) → frames_
 no-frames-if true moment later = refl
 no-frames-if false moment later = refl
 
-no-frames-since : (moment last : ℕ) (later : List NodeEvent) → frames_in (tick_since last moment ++ later) ≡ frames_in later
-no-frames-since moment last later = no-frames-if (moment == last) moment later
-
 no-frames-tick : (t : Turn) (last moment : ℕ) (later : List NodeEvent) → frames_in (tick_of t last moment ++ later) ≡ frames_in later
-no-frames-tick (turn.Bytes octets) last moment later = no-frames-since moment last later
-no-frames-tick turn.Quiet last moment later = no-frames-since moment last later
+no-frames-tick (turn.Bytes octets) last moment later = no-frames-if (moment == last) moment later
+no-frames-tick turn.Quiet last moment later = no-frames-if (moment == last) moment later
 no-frames-tick turn.Fail last moment later = refl
 no-frames-tick turn.End last moment later = refl
 

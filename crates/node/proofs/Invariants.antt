@@ -1,6 +1,6 @@
 -- What the node's loops keep.
 use Rattle.std.specs.Prelude.{◌≡◌, ◌∷◌, ◌++◌}
-use Rattle.node.proofs.Names.{ℕ, List, [], length, Option, None, Some, AllByRecursion, Gains, HearsAll, IsOpen, Ghosts as AirGhosts, Turn, AtDisk, Course, Input, inputs_of, AreHandedOver, IsOpenBefore, Lent, MomentsTaken, party_at, Halt, TurnTerms}
+use Rattle.node.proofs.Names.{ℕ, List, [], length, Option, None, Some, AllByRecursion, Gains, HearsAll, IsOpen, Ghosts as AirGhosts, Turn, AtDisk, Course, Input, inputs_of, AreHandedOver, IsOpenBefore, LentParty, MomentsTaken, party_at, Halt, TurnTerms}
 
 -- the loop over texts that are said
 pub record IsSaying {P D A : Type 0} (course : Course P D Input) (air : AirGhosts A) (before now : A) (old new : AtDisk P D) : Type 0 where
@@ -18,7 +18,7 @@ last_in (moment ∷ []) = Some moment
 last_in (moment ∷ next ∷ moments) = last_in (next ∷ moments)
 
 -- the loop over turns, all of them open ones
-pub record IsTurning {P D A C : Type 0} (course : Course P D Input) (air : AirGhosts A) (given : C → Option (List ℕ)) (old new : Lent P D A C) (terms : TurnTerms) (last : Option ℕ) (count : ℕ) : Type 0 where
+pub record IsTurning {P D A C : Type 0} (course : Course P D Input) (air : AirGhosts A) (given : C → Option (List ℕ)) (old new : LentParty P D A C) (terms : TurnTerms) (last : Option ℕ) (count : ℕ) : Type 0 where
   pub turns : List Turn
   pub moments : List ℕ
   pub text : List ℕ
@@ -31,6 +31,6 @@ pub record IsTurning {P D A C : Type 0} (course : Course P D Input) (air : AirGh
   pub last_is : last ≡ last_in moments
   pub goes : course.goes (party_at old) (inputs_of turns moments) text (party_at new)
   pub fit : course.is_fit (party_at new)
-  pub open_before : IsOpenBefore AreHandedOver course (party_at old) turns moments
+  pub open_before : IsOpenBefore AreHandedOver course (party_at old) turns moments text
   pub reads : air.read_faults new.air ≡ air.read_faults old.air
   pub writes : air.write_faults new.air ≡ air.write_faults old.air

@@ -6,13 +6,13 @@ pub use Rattle.disk_model.specs.declared.halt.Halt.{Halt}
 pub use Rattle.kiss.specs.KissText.{frame_of, from_last_fend, is_fend, kiss_text}
 unfoldable pub use Rattle.kiss.specs.KissText.{kiss_frames, kiss_parts}
 pub use Rattle.node.specs.Course.{AtDisk, Course, GaveAll, GivesNext, IsLawful, OwesStop, at, stop_at_put, stop_of}
-pub use Rattle.node.specs.Events.{Finishes, FramesFor, IsFor, NodeEvent, NodeEvents, TurnsBring, frames_in, heard_at, hears, tick_of, tick_since, ticks}
+pub use Rattle.node.specs.Events.{Finishes, FramesFor, IsFor, NodeEvent, NodeEvents, TurnsBring, frames_in, heard_at, hears, tick_of, ticks}
 pub use Rattle.node.specs.Inputs.{Input, IsInput, inputs_of, inputs_since, octet, octets_at, octets_in, tick, tick_after, turn_inputs, turn_tick}
 pub use Rattle.node.specs.Laws.{SomeFramesLaw}
 pub use Rattle.node.specs.OnAir.{Brings, BringsOver, HasHeardSome, StaysOnAir, inner, on_air}
 pub use Rattle.node.specs.Reading.{Finds, HasHeard, HearsOctet, HearsRun}
 pub use Rattle.node.specs.Station.{StationValue}
-pub use Rattle.node.specs.Turns.{AreHandedOver, Brought, CountsBy, HasAirCause, IsByParty, IsOpenBefore, IsUnsaid, Lent, MomentsFrom, MomentsTaken, NextMoment, RanBy, SaysAll, StoppedInLast, Takes, TakesPiece, TookAll, TookTurn, TookTurns, TurnEnds, TurnsBy, lent, party_at}
+pub use Rattle.node.specs.Turns.{AreHandedOver, Brought, CountsBy, HasAirCause, IsByParty, IsOpenBefore, IsUnsaid, LentParty, MomentsFrom, MomentsTaken, NextMoment, RanBy, SaysAll, StoppedInLast, Takes, TakesPiece, TookAll, TookTurn, TookTurns, TurnEnds, TurnsBy, lent_party, party_at}
 pub use Rattle.node.specs.declared.finished.Finished.{Finished}
 pub use Rattle.node.specs.declared.on_air.OnAir.{OnAir}
 pub use Rattle.node.specs.declared.stop.NodeStop.{NodeStop}
@@ -25,7 +25,7 @@ pub use Rattle.px_base.specs.Polling.{Hears, HearsAll, IsOpen, octets_heard, oct
 pub use Rattle.px_base.specs.declared.air.Air.{Ghosts}
 pub use Rattle.px_base.specs.declared.air.AirDown.{AirDown}
 pub use Rattle.px_base.specs.declared.air.Turn.{Turn}
-pub use Rattle.std.proofs.lemmas.Bool.{cases_Bool, iff_false, ne_eqb}
+pub use Rattle.std.proofs.lemmas.Bool.{cases_Bool, iff_false}
 pub use Rattle.std.proofs.lemmas.List.{drop-take, map-append, take-append-drop, take-take, take_all, take_more}
 pub use Rattle.std.proofs.lemmas.List.Elements.{All-append, All-from_recursion, All-nil, All-take, recursion_from_All}
 pub use Rattle.std.specs.List.{AllByRecursion, filter_map, list_any}

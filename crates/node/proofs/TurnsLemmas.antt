@@ -1,11 +1,11 @@
 -- The turns of a node, one after another.
 use Rattle.std.proofs.Common.{◌≡◌, ◌⊎◌, ℕ, zero, suc, ◌+◌, ◌<◌, ◌≤◌, List, [], ◌∷◌, ◌++◌, length, Bool, true, false, Option, None, Some, Result, Ok, Err}
-use Rattle.std.proofs.Common.{refl, sym, ap, ◌∙◌, subst, inl, inr, length-append, unwrap_or, arith}
+use Rattle.std.proofs.Common.{refl, sym, ap, ◌∙◌, subst, inl, inr, append_assoc, length-append, unwrap_or, arith}
 use Rattle.px_base.specs.Moments.{MomentsOf}
 use Rattle.px_base.specs.declared.air.Turn.TheVariants as turn
 use Rattle.node.specs.declared.finished.Finished.TheVariants as finished
 use Rattle.node.specs.declared.stop.NodeStop.TheVariants as stop
-use Rattle.node.proofs.Names.{AllByRecursion, ⊤, Gains, HearsAll, IsOpen, Ghosts as AirGhosts, AirDown, Turn, Gains-trans, Grows-none, Grows-trans, AtDisk, Course, IsLawful, Input, IsInput, inputs_of, turn_inputs, AreHandedOver, Brought, HasAirCause, IsOpenBefore, IsUnsaid, Lent, MomentsFrom, MomentsTaken, NextMoment, RanBy, SaysAll, StoppedInLast, Takes, TookAll, TookTurn, TookTurns, TurnsBy, party_at, Finished, NodeStop, TurnTerms}
+use Rattle.node.proofs.Names.{AllByRecursion, ⊤, Gains, HearsAll, IsOpen, Ghosts as AirGhosts, AirDown, Turn, Gains-trans, Grows-none, Grows-trans, AtDisk, Course, IsLawful, Input, IsInput, inputs_of, turn_inputs, AreHandedOver, Brought, HasAirCause, IsOpenBefore, IsUnsaid, LentParty, MomentsFrom, MomentsTaken, NextMoment, RanBy, SaysAll, StoppedInLast, Takes, TookAll, TookTurn, TookTurns, TurnsBy, party_at, Finished, NodeStop, TurnTerms}
 use Rattle.node.proofs.InputLemmas.{inputs-turn, last-more}
 use Rattle.node.proofs.Invariants.{IsTurning}
 use Rattle.node.proofs.SayingLemmas.{counts-from, unsaid-from}
@@ -96,37 +96,31 @@ taken-more (Some first) given a m n moments moment (suc count) counted (inr h) k
 -- ---- turns
 
 module _ {P D : Type 0} (course : Course P D Input) (start : AtDisk P D) where
-  open-none : IsOpenBefore AreHandedOver course start [] []
-  open-none earlier next later before behind split = absurd (no-split earlier next later split)
+  open-none : (text : List ℕ) → IsOpenBefore AreHandedOver course start [] [] text
+  open-none text earlier next later before behind split = absurd (no-split earlier next later split)
 
   -- one turn more, before which the party wasn't over
-  open-more : (turns : List Turn) (moments : List ℕ) (next : Turn) (moment : ℕ) (text : List ℕ) (now : AtDisk P D) → length moments ≡ length turns → course.goes start (inputs_of turns moments) text now
-      → course.is_over now.it ≡ false → IsOpenBefore AreHandedOver course start turns moments → IsOpenBefore AreHandedOver course start (turns ++ next ∷ []) (moments ++ moment ∷ [])
-  open-more turns moments next moment text now one_each goes not_over open_before earlier other later before behind split moments_split same_length =
+  open-more : (turns : List Turn) (moments : List ℕ) (next : Turn) (moment : ℕ) (text more : List ℕ) (now : AtDisk P D) → length moments ≡ length turns → course.goes start (inputs_of turns moments) text now
+      → course.is_over now.it ≡ false → IsOpenBefore AreHandedOver course start turns moments text → IsOpenBefore AreHandedOver course start (turns ++ next ∷ []) (moments ++ moment ∷ []) (text ++ more)
+  open-more turns moments next moment text given now one_each goes not_over open_before earlier other later before behind split moments_split same_length =
       elim (split-last turns next earlier other later split) [
         | inl same ↦
-            let at_end : before ≡ moments = same-front moments (moment ∷ []) before behind moments_split (same_length ∙ ap (λ (ts : List Turn). length ts) (sym same) ∙ sym one_each) in (
-              inputs_of turns moments,
-              ap (λ (ts : List Turn). inputs_of ts moments) same ∙ ap (λ (ms : List ℕ). inputs_of earlier ms) (sym at_end),
-              text,
-              now,
-              goes,
-              not_over,
-            )
+            let at_end : before ≡ moments = same-front moments (moment ∷ []) before behind moments_split (same_length ∙ ap (λ (ts : List Turn). length ts) (sym same) ∙ sym one_each) in
+            (inputs_of turns moments, ap (λ (ts : List Turn). inputs_of ts moments) same ∙ ap (λ (ms : List ℕ). inputs_of earlier ms) (sym at_end), text, (given, refl), now, goes, not_over)
         | inr more ↦
-            let fewer = shorter turns earlier other more.0 more.1 in
-            let front = front-within moments (moment ∷ []) before behind moments_split (omega (arith, same_length, fewer, one_each)) in
-            open_before earlier other more.0 before front.0 more.1 front.1 same_length
+            let front = front-within moments (moment ∷ []) before behind moments_split (omega (arith, same_length, shorter turns earlier other more.0 more.1, one_each)) in
+            let was = open_before earlier other more.0 before front.0 more.1 front.1 same_length in
+            (was.0, was.1, was.2, (was.3.0 ++ given, ap (λ (t : List ℕ). t ++ given) was.3.1 ∙ append_assoc was.2 was.3.0 given), was.4, was.5, was.6)
       ]
 
-module _ {P D A C : Type 0} (course : Course P D Input) (air : AirGhosts A) (given : C → Option (List ℕ)) (old : Lent P D A C) (terms : TurnTerms) where
-  abbrev Turning : Lent P D A C → Option ℕ → ℕ → Type 0
+module _ {P D A C : Type 0} (course : Course P D Input) (air : AirGhosts A) (given : C → Option (List ℕ)) (old : LentParty P D A C) (terms : TurnTerms) where
+  abbrev Turning : LentParty P D A C → Option ℕ → ℕ → Type 0
   Turning now last count = IsTurning course air given old now terms last count
 
-  abbrev Took : Lent P D A C → Result Finished NodeStop → Type 0
+  abbrev Took : LentParty P D A C → Result Finished NodeStop → Type 0
   Took now result = TookTurns AreHandedOver course air given old now terms result
 
-  module _ (now : Lent P D A C) (same_clock : now.clock ≡ old.clock) (owes : course.owes (party_at old) [] None [] (party_at old)) where
+  module _ (now : LentParty P D A C) (same_clock : now.clock ≡ old.clock) (owes : course.owes (party_at old) [] None [] (party_at old)) where
     given_none : MomentsTaken terms (given old.clock) (given now.clock) []
     given_none = subst (λ c. MomentsTaken terms (given old.clock) (given c) []) (sym same_clock) (taken-none terms.first terms.given (given old.clock))
 
@@ -145,7 +139,7 @@ module _ {P D A C : Type 0} (course : Course P D Input) (air : AirGhosts A) (giv
       last_is = refl;
       goes = (says.ends (party_at old) [] None [] owes).0;
       fit = (says.ends (party_at old) [] None [] owes).1;
-      open_before = open-none course (party_at old);
+      open_before = open-none course (party_at old) says.text;
       reads = says.reads;
       writes = says.cause.same;
     }
@@ -162,7 +156,7 @@ module _ {P D A C : Type 0} (course : Course P D Input) (air : AirGhosts A) (giv
       brings = refl;
       bound = omega arith;
       ends = tt;
-      open_before = open-none course (party_at old);
+      open_before = open-none course (party_at old) says.text;
       counts = (says.reads, says.cause.rose);
       unsaid = true;
       is_unsaid = says.cause.rose;
@@ -184,7 +178,7 @@ module _ {P D A C : Type 0} (course : Course P D Input) (air : AirGhosts A) (giv
       };
     }
 
-  module _ (mid : Lent P D A C) (last : Option ℕ) (count : ℕ) (h : Turning mid last count) where
+  module _ (mid : LentParty P D A C) (last : Option ℕ) (count : ℕ) (h : Turning mid last count) where
     abbrev all_m : Brought Input
     all_m = record { turns = h.turns; moments = h.moments; events = inputs_of h.turns h.moments }
 
@@ -214,7 +208,7 @@ module _ {P D A C : Type 0} (course : Course P D Input) (air : AirGhosts A) (giv
     pub turns-spent : course.is_over mid.party ≡ false → count ≡ terms.polls → Took mid (Err stop.Spent)
     turns-spent not_over bound = between (Err stop.Spent) false not_over (omega (arith, bound)) (h.counted ∙ bound, h.all_open) (h.reads, h.writes) (λ all. all)
 
-    module _ (lawful : IsLawful course IsInput) (not_over : course.is_over mid.party ≡ false) (below : count < terms.polls) (moment before : ℕ) (before_is : before ≡ unwrap_or last moment) (now : Lent P D A C)
+    module _ (lawful : IsLawful course IsInput) (not_over : course.is_over mid.party ≡ false) (below : count < terms.polls) (moment before : ℕ) (before_is : before ≡ unwrap_or last moment) (now : LentParty P D A C)
         (next_moment : NextMoment count terms.first terms.given (given mid.clock) (given now.clock) moment) where
       module _ (result : Result Bool NodeStop) (turned : TookTurn course air mid.air now.air (party_at mid) (party_at now) (λ next. turn_inputs next before moment) result) where
         abbrev turns_n : List Turn
@@ -246,8 +240,8 @@ module _ {P D A C : Type 0} (course : Course P D Input) (air : AirGhosts A) (giv
         moments_taken_n : MomentsTaken terms (given old.clock) (given now.clock) moments_n
         moments_taken_n = taken-more terms.first terms.given (given old.clock) (given mid.clock) (given now.clock) h.moments moment count (omega (arith, h.one_each, h.counted)) h.moments_given next_moment
 
-        open_n : IsOpenBefore AreHandedOver course (party_at old) turns_n moments_n
-        open_n = open-more course (party_at old) h.turns h.moments turned.next moment h.text (party_at mid) h.one_each h.goes not_over h.open_before
+        open_n : (text : List ℕ) → IsOpenBefore AreHandedOver course (party_at old) turns_n moments_n (h.text ++ text)
+        open_n text = open-more course (party_at old) h.turns h.moments turned.next moment h.text text (party_at mid) h.one_each h.goes not_over h.open_before
 
         -- what the party took of this turn is said behind what was said before
         said_n : (ended : Result ⊤ NodeStop) (takes : Takes course air turned.polled now.air (party_at mid) (party_at now) more ended) → Gains (air.said old.air) (air.said now.air) (h.text ++ takes.text)
@@ -277,7 +271,7 @@ module _ {P D A C : Type 0} (course : Course P D Input) (air : AirGhosts A) (giv
           brings = refl;
           bound = omega (arith, counted_n, below);
           ends = ends;
-          open_before = open_n;
+          open_before = open_n takes.text;
           counts = counts;
           unsaid = takes.unsaid;
           is_unsaid = unsaid_n ended takes;
@@ -322,7 +316,7 @@ module _ {P D A C : Type 0} (course : Course P D Input) (air : AirGhosts A) (giv
             last_is = last-more h.moments moment;
             goes = goes_n (Ok true) turned takes;
             fit = takes.ends.1;
-            open_before = open_n (Ok true) turned;
+            open_before = open_n (Ok true) turned takes.text;
             reads = turned.counts.0 ∙ h.reads;
             writes = turned.counts.1 ∙ h.writes;
           }

@@ -1,5 +1,6 @@
 -- The course of what a node drives: over which events it comes from where to where, and what it gives.
-use Rattle.std.specs.Prelude.{◌≡◌, ℕ, List, [], ◌++◌, take, Bool, true, false, Option, None, Some, Result, Ok, Err, ⊤}
+use Rattle.std.specs.Prelude.{◌≡◌, ℕ, ◌<◌, ◌≤◌, List, [], ◌++◌, length, take, Bool, true, false, Option, None, Some}
+use Rattle.std.specs.Prelude.{Result, Ok, Err, ⊤}
 use Rattle.std.specs.List.{AllByRecursion}
 use Rattle.px_base.specs.Octets.{IsFront}
 pub use Rattle.disk_model.specs.AtDisk.{AtDisk, at}
@@ -71,11 +72,11 @@ GaveAll {S} {D} {E} course old new =
     (start : AtDisk S D) (events : List E) (why : Option Halt) (said : List ℕ)
     → course.owes start events why said old → Settles course start events why said new
 
--- It halts at what a front of these octets finishes, which stops its node so.
+-- It halts at what a front of these octets finishes, at least one, which stops its node so.
 abbrev pub HaltsWithin :
     {S D E : Type 0} → Course S D E → AtDisk S D → (List ℕ → List E) → List ℕ → NodeStop → AtDisk S D → Type 0
 HaltsWithin course start events octets stop now =
-    (taken : ℕ) × OwesStop course start (events (take taken octets)) stop now
+    (taken : ℕ) × (0 < taken) × (taken ≤ length octets) × OwesStop course start (events (take taken octets)) stop now
 
 -- What holds of each course, whose events are these ones.
 pub record IsLawful {S D E : Type 0} (course : Course S D E) (IsEvent : E → Type 0) : Type 0 where

@@ -1,11 +1,12 @@
 -- The events of a node: what it hears and when it ticks, by the turns of its air and their moments.
-use Rattle.std.specs.Prelude.{◌≡◌, ◌⊎◌, ℕ, ◌==◌, List, [], ◌∷◌, ◌++◌, map, if◌then◌else◌}
+use Rattle.std.specs.Prelude.{◌≡◌, ◌⊎◌, ℕ, List, [], ◌∷◌, ◌++◌, map}
 use Rattle.px_base.specs.CallSign.{CallSign}
 use Rattle.px_base.specs.Polling.{octets_of_turn}
 use Rattle.px_base.specs.declared.air.Turn.{Turn}
 use Rattle.px_base.specs.declared.air.Turn.TheVariants as turn
 use Rattle.kiss.specs.KissText.{kiss_frames}
 use Rattle.ax25_frames.specs.FrameText.{FrameText, FrameValue}
+use Rattle.node.specs.Inputs.{unless_same}
 
 -- a frame is heard at a moment; or the clock went on to this moment
 pub data NodeEvent : Type 0 where
@@ -40,14 +41,11 @@ Finishes me before octets frames =
 abbrev pub heard_at : ℕ → List FrameValue → List NodeEvent
 heard_at moment frames = map (λ frame. hears frame moment) frames
 
--- a tick, where the moment isn't the one of the last tick
-abbrev pub tick_since : ℕ → ℕ → List NodeEvent
-tick_since last moment = if moment == last then [] else ticks moment ∷ []
-
--- a tick of a turn: none at the end of the air, nor where the poll failed
+-- a tick of a turn, where the moment isn't the one of the last tick: none at the end of the air, nor where the poll
+-- failed
 abbrev pub tick_of : Turn → ℕ → ℕ → List NodeEvent
-tick_of (turn.Bytes octets) last moment = tick_since last moment
-tick_of turn.Quiet last moment = tick_since last moment
+tick_of (turn.Bytes octets) last moment = unless_same last moment (ticks moment)
+tick_of turn.Quiet last moment = unless_same last moment (ticks moment)
 tick_of turn.Fail last moment = []
 tick_of turn.End last moment = []
 

@@ -14,9 +14,13 @@ pub data Input : Type 0 where
 abbrev pub octets_at : ℕ → List ℕ → List Input
 octets_at moment octets = map (λ o. octet o moment) octets
 
+-- this one, where the moment isn't the one of the last tick
+abbrev pub unless_same : {T : Type 0} → ℕ → ℕ → T → List T
+unless_same last moment one = if moment == last then [] else one ∷ []
+
 -- a tick, where the moment isn't the one of the last tick
 abbrev pub tick_after : ℕ → ℕ → List Input
-tick_after last moment = if moment == last then [] else tick moment ∷ []
+tick_after last moment = unless_same last moment (tick moment)
 
 -- a tick of a turn: none at the end of the air, nor where the poll failed
 abbrev pub turn_tick : Turn → ℕ → ℕ → List Input

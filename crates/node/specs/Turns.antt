@@ -4,6 +4,7 @@ use Rattle.std.specs.Prelude.{true, false, Option, None, Some}
 use Rattle.std.specs.Prelude.{IfErr, MatchResult, Result, Ok, Err, ⊤}
 use Rattle.std.specs.List.{AllByRecursion}
 use Rattle.px_base.specs.Moments.{MomentsOf}
+use Rattle.px_base.specs.Octets.{IsFront}
 use Rattle.px_base.specs.Outside.{Gains, HasCause, Rose}
 use Rattle.px_base.specs.Polling.{EndsWith, Hears, HearsAll, IsButLast, IsOpen}
 use Rattle.px_base.specs.declared.air.Air.{Ghosts as AirGhosts}
@@ -53,17 +54,17 @@ IsByParty (stop.NotAStore found) = ⊥
 IsByParty (stop.Damaged place) = ⊥
 
 -- what a node is lent, with its party
-pub record Lent (P D A C : Type 0) : Type 0 where
+pub record LentParty (P D A C : Type 0) : Type 0 where
   pub party : P
   pub disk : D
   pub air : A
   pub clock : C
 
-abbrev pub lent : {P D A C : Type 0} → P → D → A → C → Lent P D A C
-lent party disk air clock = record { party = party; disk = disk; air = air; clock = clock }
+abbrev pub lent_party : {P D A C : Type 0} → P → D → A → C → LentParty P D A C
+lent_party party disk air clock = record { party = party; disk = disk; air = air; clock = clock }
 
 -- the party at its disk
-abbrev pub party_at : {P D A C : Type 0} → Lent P D A C → AtDisk P D
+abbrev pub party_at : {P D A C : Type 0} → LentParty P D A C → AtDisk P D
 party_at all = at all.party all.disk
 
 -- The moments of the turns: the first one may have been taken before; the others are the one that is given, or the
@@ -108,14 +109,16 @@ pub record Brought (E : Type 0) : Type 0 where
 abbrev pub AreHandedOver : List Turn → List ℕ → List Input → Type 0
 AreHandedOver turns moments inputs = inputs ≡ inputs_of turns moments
 
--- Before each of these turns it wasn't over, behind what the turns before it bring.
+-- Before each of these turns it wasn't over, behind what the turns before it bring; what it had given by then is a
+-- front of this text.
 abbrev pub IsOpenBefore :
-    {S D E : Type 0} → (List Turn → List ℕ → List E → Type 0) → Course S D E → AtDisk S D → List Turn → List ℕ → Type 0
-IsOpenBefore {S} {D} {E} Brings course start turns moments =
+    {S D E : Type 0} → (List Turn → List ℕ → List E → Type 0) → Course S D E → AtDisk S D → List Turn → List ℕ → List ℕ
+    → Type 0
+IsOpenBefore {S} {D} {E} Brings course start turns moments text =
     (earlier : List Turn) (next : Turn) (later : List Turn) (before behind : List ℕ) → turns ≡ earlier ++ next ∷ later
     → moments ≡ before ++ behind → length before ≡ length earlier
     → (events : List E) × Brings earlier before events
-    × (text : List ℕ) × (then_is : AtDisk S D) × course.goes start events text then_is
+    × (front : List ℕ) × IsFront front text × (then_is : AtDisk S D) × course.goes start events front then_is
     × (course.is_over then_is.it ≡ false)
 
 -- It took all these events, gave this text, and is over or isn't.
@@ -165,7 +168,7 @@ RanBy Brings course start all (Err (stop.Damaged place)) text unsaid now = ⊥
 
 -- The turns of a node: what was heard, given and said, how they ended, and what came of what they bring.
 pub record TookTurns {S D A C E : Type 0} (Brings : List Turn → List ℕ → List E → Type 0) (course : Course S D E)
-    (air : AirGhosts A) (given : C → Option (List ℕ)) (old new : Lent S D A C) (terms : TurnTerms)
+    (air : AirGhosts A) (given : C → Option (List ℕ)) (old new : LentParty S D A C) (terms : TurnTerms)
     (result : Result Finished NodeStop) : Type 0 where
   pub all : Brought E
   pub text : List ℕ
@@ -176,7 +179,7 @@ pub record TookTurns {S D A C E : Type 0} (Brings : List Turn → List ℕ → L
   pub brings : Brings all.turns all.moments all.events
   pub bound : length all.turns ≤ terms.polls
   pub ends : TurnsBy result terms.polls all.turns
-  pub open_before : IsOpenBefore Brings course (party_at old) all.turns all.moments
+  pub open_before : IsOpenBefore Brings course (party_at old) all.turns all.moments text
   pub counts : HasAirCause air old.air new.air result
   pub unsaid : Bool
   pub is_unsaid : IsUnsaid unsaid (air.write_faults old.air) (air.write_faults new.air)
@@ -216,7 +219,8 @@ abbrev pub TakesPiece :
     (List Input → Result ⊤ NodeStop → Type 0) → (List ℕ → List Input) → List ℕ → Result ℕ NodeStop → Type 0
 TakesPiece Taken inputs piece (Ok taken) =
     (0 < taken) × (taken ≤ length piece) × Taken (inputs (take taken piece)) (Ok tt)
-TakesPiece Taken inputs piece (Err why) = (taken : ℕ) × Taken (inputs (take taken piece)) (Err why)
+TakesPiece Taken inputs piece (Err why) =
+    (taken : ℕ) × (0 < taken) × (taken ≤ length piece) × Taken (inputs (take taken piece)) (Err why)
 
 -- How a turn ended: all that it handed over was taken, and it left the air open, or closed it; or the poll failed; or
 -- the party stopped at something that it handed over.

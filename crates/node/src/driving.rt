@@ -3,7 +3,7 @@
 ghost use Rattle.std.specs.Prelude.{◌≡◌, [], None};
 ghost use Rattle.disk_model.specs.AtDisk.{at};
 ghost use Rattle.node.specs.Events.{NodeEvents};
-ghost use Rattle.node.specs.Turns.{TookTurns, lent};
+ghost use Rattle.node.specs.Turns.{TookTurns, lent_party};
 
 use crate::on_air::OnAir;
 use crate::{Finished, NodeStop, Station, TurnTerms, take_turns};
@@ -24,8 +24,8 @@ pub fn drive<D: Disk, S: Station<D>, A: Air, C: Clock>(
 ) -> (S, Result<Finished, NodeStop>)
     requires me { S.me station ≡ me }
     requires owes { S.course.owes (at station disk.old) [] None [] (at station disk.old) }
-    ensures turns { TookTurns (NodeEvents me) S.course A.Air C.given (lent station disk.old air.old clock.old)
-        (lent result.0 disk.new air.new clock.new) terms.now result.1 }
+    ensures turns { TookTurns (NodeEvents me) S.course A.Air C.given (lent_party station disk.old air.old clock.old)
+        (lent_party result.0 disk.new air.new clock.new) terms.now result.1 }
 {
     let mut node = OnAir::new(me, station);
     let ended = take_turns(&mut node, disk, air, clock, terms);

@@ -5,7 +5,8 @@ ghost use Rattle.px_base.specs.Moments.{MomentsOf};
 ghost use Rattle.disk_model.specs.AtDisk.{at};
 ghost use Rattle.node.specs.Course.{OwesSome};
 ghost use Rattle.node.specs.Inputs.{octets_at, tick_after, turn_inputs};
-ghost use Rattle.node.specs.Turns.{AreHandedOver, IsMomentOf, SaysAll, Takes, TakesPiece, TookTurn, TookTurns, lent};
+ghost use Rattle.node.specs.Turns.{AreHandedOver, IsMomentOf, SaysAll, Takes, TakesPiece, TookTurn, TookTurns};
+ghost use Rattle.node.specs.Turns.{lent_party};
 
 use crate::{Finished, MOST_SAID, NodeStop, Party, TurnTerms};
 use arrayvec::ArrayVec;
@@ -50,8 +51,8 @@ pub fn take_turns<D: Disk, P: Party<D>, A: Air, C: Clock>(
     terms: &TurnTerms,
 ) -> Result<Finished, NodeStop>
     requires { P.course.owes (at party.old disk.old) [] None [] (at party.old disk.old) }
-    ensures turns { TookTurns AreHandedOver P.course A.Air C.given (lent party.old disk.old air.old clock.old)
-        (lent party.new disk.new air.new clock.new) terms.now result }
+    ensures turns { TookTurns AreHandedOver P.course A.Air C.given (lent_party party.old disk.old air.old clock.old)
+        (lent_party party.new disk.new air.new clock.new) terms.now result }
     ensures clock { IsSome terms.now.given → clock.new ≡ clock.old }
 {
     P::is_lawful();

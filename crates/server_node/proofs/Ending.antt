@@ -9,7 +9,7 @@ use Rattle.disk_model.specs.Runs.{Runs, TakesStep}
 use Rattle.server_node.specs.OnDisk.{NodeRuns}
 use Rattle.file_journal.proofs.Offered.{known_told, recovers_on, runs_same}
 use Rattle.disk_model.proofs.Offered.{runs_among, runs_missed}
-use Rattle.server_node.proofs.Names.{AnswersRecovery, AtDisk, Command, Course, CutsOffAmongReads, DoesAmongReads, Driven, Ends, EndsOver, Finished, Ghosts, HasAirCause, IsBeforeTurns, IsButLast, IsKnown, IsRead, IsReadOn, IsRecovered, Lent, Made, MomentsOf, NodeHasCause, NodeStop, NodeTurnsBy, PutsAmongReads, RanBy, RefusesSession, Run, Seen, Served, Steps, StoppedInLast, StopsBehind, Store, StoreState, TakesAll, TookAll, TookTurns, Turn, TurnTerms, TurnsBy, at_told, common_steps, cuts-among-all, if_told, known_on, lent, made, party_at, served_by, stands-through, store_form, store_layout, store_magic, store_on, told_weaker}
+use Rattle.server_node.proofs.Names.{AnswersRecovery, AtDisk, Command, Course, CutsOffAmongReads, DoesAmongReads, Ends, EndsOver, Finished, Ghosts, HasAirCause, IsBeforeTurns, IsButLast, IsKnown, IsRead, IsReadOn, IsRecovered, Lent, LentParty, Made, MomentsOf, NodeHasCause, NodeStop, NodeTurnsBy, PutsAmongReads, RanBy, RefusesSession, Run, Seen, Served, Steps, StoppedInLast, StopsBehind, Store, StoreState, TakesAll, TookAll, TookTurns, Turn, TurnTerms, TurnsBy, at_told, common_steps, cuts-among-all, if_told, known_on, lent, made, party_at, served_by, stands-through, store_form, store_layout, store_magic, store_on, told_weaker}
 use Rattle.server_node.proofs.StepsLemmas.{DidOnDisk}
 use Rattle.node.specs.Stops.{stop_of_fault}
 use Rattle.std.proofs.lemmas.Result.{err_from_is_err_and}
@@ -112,7 +112,7 @@ append-none (c ∷ a) b none = absurd (cc none)
 
 -- ---- by how the turns ended: all that they bring was taken, or it stopped at an event of the last one
 
-module _ {P A C D E : Type 0} (seen : Seen D A C) (Brings : List Turn → List ℕ → List E → Type 0) (course : Course P D E) (old new : Driven P D A C) (terms : TurnTerms) (ended : Result Finished NodeStop)
+module _ {P A C D E : Type 0} (seen : Seen D A C) (Brings : List Turn → List ℕ → List E → Type 0) (course : Course P D E) (old new : LentParty P D A C) (terms : TurnTerms) (ended : Result Finished NodeStop)
     (took : TookTurns Brings course seen.air seen.given old new terms ended) where
   abbrev pub Causes : Result Served NodeStop → Type 0
   Causes result = HasAirCause seen.air.read_faults seen.air.write_faults old.air new.air result

@@ -27,7 +27,7 @@ pub use Rattle.node.specs.Course.{AtDisk, Course, GaveAll, GivesNext, IsLawful, 
 pub use Rattle.node.specs.Events.{NodeEvent, NodeEvents, hears, ticks}
 pub use Rattle.node.specs.Inputs.{Input, IsInput, inputs_of, inputs_since, octet, octets_at, octets_in, tick, turn_inputs, turn_tick}
 pub use Rattle.node.specs.Lent.{Lent, Seen, lent, seen}
-pub use Rattle.node.specs.Turns.{AreHandedOver, HasAirCause as NodeHasCause, Lent as Driven, MomentsFrom, RanBy, StoppedInLast, TookAll, TookTurns, TurnsBy as NodeTurnsBy, party_at}
+pub use Rattle.node.specs.Turns.{AreHandedOver, HasAirCause as NodeHasCause, LentParty, MomentsFrom, RanBy, StoppedInLast, TookAll, TookTurns, TurnsBy as NodeTurnsBy, lent_party, party_at}
 pub use Rattle.node.specs.declared.finished.Finished.{Finished}
 pub use Rattle.node.specs.declared.stop.NodeStop.{NodeStop}
 pub use Rattle.node.specs.declared.terms.TurnTerms.{TurnTerms}

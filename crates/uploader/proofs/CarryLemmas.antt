@@ -1,6 +1,5 @@
 -- What carrying out a job comes to, and what its outcomes are to the command that asked for it.
 use Rattle.std.proofs.Common.{inl, ◌≡◌, ℕ, Bool, true, false, List, [], ◌++◌, refl, sym, ◌∙◌, ap, subst, append-nil, Option, None, Some, IfSome, Result, Ok, Err, IfErr, IsErrOf, ◌≢◌, IfOk, ◌≤◌, length, arith}
-use Rattle.file_journal.specs.Position.{Position}
 use Rattle.client_notes.specs.Laws.{after_all}
 use Rattle.node.specs.Turns as turns
 use Rattle.node.specs.declared.finished.Finished.TheVariants as finished
@@ -15,7 +14,7 @@ use Rattle.ftl0_client.specs.Directory.{Directory, new_directory}
 use Rattle.ftl0_client.specs.Download.{Download, new_download}
 use Rattle.ftl0_client.specs.Short.{are_short_headers}
 use Rattle.client_notes.specs.Limits.{longest_file}
-use Rattle.uploader.proofs.Names.{⊤, MatchResult, common_steps, Runs, state, GoesThrough, goes_through, images-here, recovered-ready, runs_same, Several-none, Several-then, told_weaker, NotesCommand, Lists, got_of, EachImage, CutsOff, DoesSeveral, StandsFor, standing_of, Lent, Seen, Turn, Finished, NodeStop, JobState, new_job, Client, ClientEvent, ClientState, listing_in, Promises, Outcome, CarriesOut, CountsWhere, EndsOver, Run, asked_first, before_last, SendStop, ClientTerms, Carries, asked_of, client_from, HasCauses, is_before_outcome, RefusesNotes, RecoversClient, IsUpload, answer_of, stop_of_node, stop_of_turns, fault_code, Ghosts, noted_at, TurnsBy, IsAckedIn, Upload, CallSign, Holding, NotesGoWith, Fetches, FileAsked, KeepsBy, download_of, FilesAsked, ListsFiles, ShowsBy, directory_of}
+use Rattle.uploader.proofs.Names.{⊤, MatchResult, common_steps, Runs, state, GoesThrough, goes_through, images-here, recovered-ready, runs_same, Several-none, Several-then, told_weaker, NotesCommand, Lists, got_of, EachImage, CutsOff, DoesSeveral, StandsFor, standing_of, Lent, Seen, lent_party, Turn, Finished, NodeStop, JobState, new_job, Client, ClientEvent, ClientState, listing_in, Promises, Outcome, CarriesOut, CountsWhere, EndsOver, Run, asked_first, before_last, SendStop, ClientTerms, Carries, asked_of, client_from, HasCauses, is_before_outcome, RefusesNotes, RecoversClient, IsUpload, answer_of, stop_of_node, stop_of_turns, fault_code, Ghosts, noted_at, TurnsBy, IsAckedIn, Upload, CallSign, Holding, NotesGoWith, Fetches, FileAsked, KeepsBy, download_of, FilesAsked, ListsFiles, ShowsBy, directory_of}
 
 -- ---- the stops of a command
 
@@ -206,12 +205,12 @@ pub record HasCarried {A C D : Type 0} (see : Seen D A C) (old new : Lent D A C)
   pub end : ClientState
   pub ready : RecoversClient see.disk terms old.disk mid made
   pub starts : DoesSeveral see.disk ⊥ made.notes asked.notes mid between first
-  pub out : CarriesOut see (turns.lent asked between old.air old.clock) (turns.lent end new.disk new.air new.clock) job terms.polls (client_from terms (after_all made.notes.lists first)) result
+  pub out : CarriesOut see (lent_party asked between old.air old.clock) (lent_party end new.disk new.air new.clock) job terms.polls (client_from terms (after_all made.notes.lists first)) result
 
 -- no command came first
 abbrev pub just-asked : {A C D : Type 0} (see : Seen D A C) → ((disk : D) → see.disk.lasts disk disk) → (old new : Lent D A C) (mid : D) (terms : ClientTerms) (made end : ClientState) (made_job job : JobState)
     (result : Result Outcome SendStop) → made_job ≡ job → RecoversClient see.disk terms old.disk mid made
-    → CarriesOut see (turns.lent made mid old.air old.clock) (turns.lent end new.disk new.air new.clock) made_job terms.polls (client_from terms made.notes.lists) result → HasCarried see old new terms [] job result
+    → CarriesOut see (lent_party made mid old.air old.clock) (lent_party end new.disk new.air new.clock) made_job terms.polls (client_from terms made.notes.lists) result → HasCarried see old new terms [] job result
 just-asked see lasts old new mid terms made end made_job job result is ready out = record {
   mid = mid;
   between = mid;
@@ -220,7 +219,7 @@ just-asked see lasts old new mid terms made end made_job job result is ready out
   end = end;
   ready = ready;
   starts = Several-none see.disk ⊥ made.notes mid (λ never. never) (recovered-ready see.disk old.disk mid made.notes ready.recovers.recovered) (lasts mid);
-  out = subst (λ (j : JobState). CarriesOut see (turns.lent made mid old.air old.clock) (turns.lent end new.disk new.air new.clock) j terms.polls (client_from terms made.notes.lists) result) is out;
+  out = subst (λ (j : JobState). CarriesOut see (lent_party made mid old.air old.clock) (lent_party end new.disk new.air new.clock) j terms.polls (client_from terms made.notes.lists) result) is out;
 }
 
 module _ {A C D : Type 0} (see : Seen D A C) (on : (first second third : D) → see.disk.lasts first second → see.disk.lasts second third → see.disk.lasts first third) (old new : Lent D A C) (terms : ClientTerms)

@@ -93,7 +93,7 @@ module _ (steps : OneStepLaw) (stays : StaysLaw) (client : Client) where
   taken-same : (events : List ClientEvent) (over : Bool) (got reached : Option Outcome) (text : List ℕ) (done cut : List NotesCommand) (frames : List FrameValue) (commands : List NotesCommand) (now : Client)
       → TakesAll client events over got text done cut → GoesOver client events frames commands now → outcome_by now.attempt ≡ reached → got ≡ reached
   taken-same events over got reached text done cut frames commands now taken goes is =
-      let same : taken.1 ≡ now = goes-alike steps client events taken.0 frames done commands taken.1 now taken.2 goes in
+      let same : taken.1 ≡ now = (goes-alike steps client events taken.0 frames done commands taken.1 now taken.2 goes).0 in
       taken.5 ∙ ap (λ (c : Client). outcome_by c.attempt) same ∙ is
 
   -- where a put failed behind what became of the job, that stays over all that is behind it
@@ -108,7 +108,7 @@ module _ (steps : OneStepLaw) (stays : StaysLaw) (client : Client) where
       let parts : GoesBy client (s.before ++ s.next ∷ []) s.later now =
       goes-split client (s.before ++ s.next ∷ []) s.later frames commands now (subst (λ (es : List ClientEvent). GoesOver client es frames commands now) events_are goes) in
       let run = goes-append client s.before s.frames s.commands s.client_then (s.next ∷ []) at.0 s.more at.1 s.goes (goes-one s.client_then s.next s.more at.0 at.1 at.2) in
-      let same : at.1 ≡ parts.mid = goes-alike steps client (s.before ++ s.next ∷ []) _ parts.frames _ parts.commands at.1 parts.mid run parts.first in
+      let same : at.1 ≡ parts.mid = (goes-alike steps client (s.before ++ s.next ∷ []) _ parts.frames _ parts.commands at.1 parts.mid run parts.first).0 in
       let asked : GoesOver client (asks job ∷ up.front) parts.frames parts.commands parts.mid =
       subst (λ (es : List ClientEvent). GoesOver client es parts.frames parts.commands parts.mid) up.front_is parts.first in
       let came : got ≡ outcome_by parts.mid.attempt = at.6 ∙ ap (λ (c : Client). outcome_by c.attempt) same in

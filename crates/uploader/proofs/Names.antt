@@ -1,6 +1,6 @@
 -- The names of specs, and of the crates below, that proofs use, in one place.
 pub use Rattle.ax25_frames.specs.FrameText.{FrameValue, canonical}
-pub use Rattle.client_notes.proofs.Offered.{GoesThrough, Several-none, Several-one, Several-same, Several-then, acked-last, alike_same, answers-err, at_told, begun-fresh, begun-kept, counts_none, cuts-none, cuts-then, does-nothing, goes_through, if_told, images-here, not-failed, of_task, recovered-ready, recovers-as, runs_same, stops_none, told_weaker}
+pub use Rattle.client_notes.proofs.Offered.{GoesThrough, Several-none, Several-one, Several-same, Several-then, acked-last, alike_same, answers-err, at_told, begun-fresh, begun-kept, counts_none, cuts-none, cuts-then, does-nothing, goes_through, if_told, images-here, not-failed, of_task, recovered-ready, recovers-as, recovers-good, runs_same, stops_none, told_weaker}
 pub use Rattle.client_notes.specs.Answers.{StartsBy, fresh_task, noted_at, start_reaches}
 pub use Rattle.client_notes.specs.Command.{NotesCommand}
 pub use Rattle.client_notes.specs.Notes.{Lists, got_of, is_same_call, last_task}
@@ -28,7 +28,7 @@ pub use Rattle.node.specs.Course.{AtDisk, GaveAll, GivesNext, IsLawful, at, stop
 pub use Rattle.node.specs.Events.{NodeEvent, NodeEvents, ticks}
 pub use Rattle.node.specs.Laws.{OneRunLaw}
 pub use Rattle.node.specs.Lent.{Lent, Seen, lent, seen}
-pub use Rattle.node.specs.Turns.{Brought, HasAirCause, IsUnsaid, RanBy, StoppedInLast, TookAll, TookTurns, TurnsBy, party_at}
+pub use Rattle.node.specs.Turns.{Brought, HasAirCause, IsUnsaid, LentParty, RanBy, StoppedInLast, TookAll, TookTurns, TurnsBy, lent_party, party_at}
 pub use Rattle.node.specs.declared.finished.Finished.{Finished}
 pub use Rattle.node.specs.declared.stop.NodeStop.{NodeStop}
 pub use Rattle.pfh_reader.specs.Faults.{fault_code}

@@ -4,10 +4,9 @@ use Rattle.client_notes.specs.Answers.{answer_of}
 use Rattle.client_notes.specs.declared.answers.Begun.TheVariants as begun
 use Rattle.client_notes.specs.declared.answers.Noted.TheVariants as noted
 use Rattle.client_notes.specs.declared.refusals.NotesRefusal.TheVariants as refusal
-use Rattle.node.specs.Turns as turns
 use Rattle.ftl0_client.specs.Outcome.TheVariants as outcome
 use Rattle.uploader.specs.declared.stop.SendStop.TheVariants as stop
-use Rattle.uploader.proofs.Names.{common_steps, CallSign, Holding, content_of, fault_code, Ghosts, Runs, acked-last, alike_same, begun-fresh, begun-kept, goes_through, images-here, not-failed, of_task, recovered-ready, Several-none, Several-one, Several-same, stops_none, told_weaker, state, StartsBy, fresh_task, start_reaches, NotesCommand, Begun, NotesRefusal, Lists, last_task, Does, EachImage, Untouched, CutsOff, DoesSeveral, IsReady, NotesState, StandsFor, standing_of, Lent, Seen, lent, IsAckedIn, JobState, new_upload, Client, ClientState, GoWithAttempt, IsClient, MayHear, client_pending, listing_in, Outcome, CarriesOut, MayCarryOut, SendStop, FileSum, ClientTerms, Sent, client_from, HasCauses, HasShelfCause, IsPastFile, IsSendable, IsUnfit, LoadsExactly, RefusesFile, sum_of, RefusesNotes, RecoversClient, UploadsJob, EndsAtStart, IsLastAcked, IsTaskFor, IsUnstarted, SendEnds, Uploads, first_command, last_answer, upload_of, stop_of_start}
+use Rattle.uploader.proofs.Names.{common_steps, CallSign, Holding, content_of, fault_code, Ghosts, Runs, acked-last, alike_same, begun-fresh, begun-kept, goes_through, images-here, not-failed, of_task, recovered-ready, Several-none, Several-one, Several-same, stops_none, told_weaker, state, StartsBy, fresh_task, start_reaches, NotesCommand, Begun, NotesRefusal, Lists, last_task, Does, EachImage, Untouched, CutsOff, DoesSeveral, IsReady, NotesState, StandsFor, standing_of, Lent, Seen, lent_party, lent, IsAckedIn, JobState, new_upload, Client, ClientState, GoWithAttempt, IsClient, MayHear, client_pending, listing_in, Outcome, CarriesOut, MayCarryOut, SendStop, FileSum, ClientTerms, Sent, client_from, HasCauses, HasShelfCause, IsPastFile, IsSendable, IsUnfit, LoadsExactly, RefusesFile, sum_of, RefusesNotes, RecoversClient, UploadsJob, EndsAtStart, IsLastAcked, IsTaskFor, IsUnstarted, SendEnds, Uploads, first_command, last_answer, upload_of, stop_of_start}
 use Rattle.uploader.proofs.CarryLemmas.{acked-in, carries, causes, causes-err, causes-late, causes-still, HasCarried, images-at-end, never, never-bad, of_answer, of_turns, outcome-fine, recovered_exactly, upload-reached}
 use Rattle.uploader.proofs.StartLemmas.{cut_of, refused-start}
 
@@ -259,12 +258,12 @@ module _ {A C D : Type 0} (see : Seen D A C) (lasts : (disk : D) → see.disk.la
   module _ (new : Lent D A C) (given : Result Begun NotesRefusal) (s : HasStarted see.disk terms name file old.disk now given) (task number : ℕ) (first : List NotesCommand)
       (starts : DoesSeveral see.disk ⊥ s.made.notes s.asked.notes s.mid now first) (task_for : IsTaskFor terms s.made.notes.lists name (sum_of file) task number first) (end : ClientState) (made_job : JobState)
       (made_is : made_job ≡ upload_of task number file) (result : Result Sent SendStop)
-      (uploads : UploadsJob see (turns.lent s.asked now old.air old.clock) (turns.lent end new.disk new.air new.clock) made_job terms.polls (client_from terms s.asked.notes.lists) result) where
+      (uploads : UploadsJob see (lent_party s.asked now old.air old.clock) (lent_party end new.disk new.air new.clock) made_job terms.polls (client_from terms s.asked.notes.lists) result) where
     abbrev job : JobState
     job = upload_of task number file
 
     abbrev Carrying : JobState → Lists → Type 0
-    Carrying j lists = CarriesOut see (turns.lent s.asked now old.air old.clock) (turns.lent end new.disk new.air new.clock) j terms.polls (client_from terms lists) uploads.came
+    Carrying j lists = CarriesOut see (lent_party s.asked now old.air old.clock) (lent_party end new.disk new.air new.clock) j terms.polls (client_from terms lists) uploads.came
 
     abbrev h : HasCarried see old new terms first job uploads.came
     h = record {

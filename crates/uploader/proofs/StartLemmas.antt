@@ -7,7 +7,7 @@ use Rattle.client_notes.specs.StoreFault.{StoreFault}
 use Rattle.client_notes.specs.StoreFault.TheVariants as fault
 use Rattle.uploader.specs.declared.stop.SendStop.TheVariants as stop
 use Rattle.client_notes.specs.declared.refusals.NotesRefusal.TheVariants as refusal
-use Rattle.uploader.proofs.Names.{⊤, IsErrOf, Result, Err, Ghosts, NotesState, standing_of, if_told, runs_same, told_weaker, at_told, SendStop, EndsExactly, RefusesNotes, StopsRecovery, stop_of_fault, stop_of_start, StartsBy, NotesCommand, Lists, state, RecoversTo, Begun, NotesRefusal, FileSum, EndsAtStart, IsUnnoted}
+use Rattle.uploader.proofs.Names.{⊤, IsErrOf, Result, Err, Ghosts, NotesState, standing_of, if_told, recovers-good, runs_same, told_weaker, at_told, SendStop, EndsExactly, RefusesNotes, StopsRecovery, stop_of_fault, stop_of_start, StartsBy, NotesCommand, Lists, state, RecoversTo, Begun, NotesRefusal, FileSum, EndsAtStart, IsUnnoted}
 pub use Rattle.client_notes.proofs.Offered.{IsOfTask, of_task}
 
 -- what a recovery leaves behind which there was no memory
@@ -16,6 +16,7 @@ unmade_leaves g old now notes recovers = record {
   refuses = λ healthy room. absurd (room refl);
   untouched = λ found is. absurd (cc is);
   untouched_damage = λ at is. absurd (cc is);
+  memory = λ is. recovers-good g old now notes recovers;
   runs = runs_same g _ _ old now (λ never. absurd never) (λ is. cc is) recovers.runs;
   within = if_told (g.content old) _ (λ before told in_halves. absurd (cc in_halves));
   since_start = recovers.since_start;

@@ -2,7 +2,7 @@
 use Rattle.std.specs.Prelude.{◌≡◌, ℕ, MatchResult, Result, Ok, Err, ⊤}
 use Rattle.disk_model.specs.declared.disk.Disk.{Ghosts}
 use Rattle.node.specs.Lent.{Seen}
-use Rattle.node.specs.Turns.{Lent}
+use Rattle.node.specs.Turns.{LentParty}
 use Rattle.client_notes.specs.Recovery.{AnswersRecovery, Recovers}
 use Rattle.client_notes.specs.StoreFault.{StoreFault}
 use Rattle.ftl0_client.specs.Work.{Work}
@@ -38,7 +38,7 @@ IsUpload (work.Directory at) = ⊥
 IsUpload (work.Download at) = ⊥
 
 -- A client that stands for this one was asked for an upload and carried it out, and this is what `send` makes of it.
-pub record UploadsJob {A C D : Type 0} (see : Seen D A C) (old new : Lent ClientState D A C) (job : JobState)
+pub record UploadsJob {A C D : Type 0} (see : Seen D A C) (old new : LentParty ClientState D A C) (job : JobState)
     (polls : ℕ) (base : Client) (result : Result Sent SendStop) : Type 0 where
   pub came : Result Outcome SendStop
   pub carries : CarriesOut see old new job polls base came

@@ -3,7 +3,7 @@
 ghost use Rattle.std.specs.Prelude.{◌≡◌, ◌≤◌, length};
 ghost use Rattle.ftl0_client.specs.Window.{IsGoodK};
 ghost use Rattle.node.specs.Lent.{lent, seen};
-ghost use Rattle.node.specs.Turns as turns;
+ghost use Rattle.node.specs.Turns.{lent_party};
 ghost use Rattle.uploader.specs.Causes.{HasCauses};
 ghost use Rattle.uploader.specs.Loading.{HasShelfCause, IsPastFile, RefusesFile};
 ghost use Rattle.uploader.specs.OnDisk.{RefusesNotes};
@@ -106,8 +106,8 @@ fn upload<D: Disk, A: Air, C: Clock>(
     requires asked { MayBeAsked client job }
     requires upload { IsUpload job.work }
     ensures uploaded { (base : ClientValue) → IsClient client base →
-        UploadsJob (seen D.Disk A.Air C.given) (turns.lent client disk.old air.old clock.old)
-        (turns.lent result.0 disk.new air.new clock.new) job polls base result.1 }
+        UploadsJob (seen D.Disk A.Air C.given) (lent_party client disk.old air.old clock.old)
+        (lent_party result.0 disk.new air.new clock.new) job polls base result.1 }
 {
     // The client stands for some client of the definitions.
     client.some_law();

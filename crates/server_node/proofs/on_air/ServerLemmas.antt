@@ -12,7 +12,7 @@ use Rattle.ftl0_server.specs.Serving.{TakesEvent}
 use Rattle.server_node.specs.OnAir.Serving.{StopsAt, server_steps, text_of}
 use Rattle.server_node.specs.declared.on_air.station.ServerStation.{ServerStation}
 use Rattle.std.proofs.lemmas.List.Concat.{flat_map-append}
-use Rattle.server_node.proofs.Names.{AtDisk, Command, CutsOffAmongReads, DiskFault, Driven, EndsOver, FailsBy, Finished, GaveAll, Ghosts, GivesNext, Halt, HasAirCause, IsButLast, IsFront, IsKnown, IsLawful, IsReady, IsRecovered, IsSaid, IsUp, NodeEvent, NodeEvents, NodeStop, OwesRest, Run, RunsOn, RunsTo, Seen, Served, ServesAt, Service, StandsBy, StopsOn, StopsTo, Store, StoreState, TookTurns, Turn, TurnTerms, TurnsBy, WholeBy, at, common_steps, cuts-among-none, empties-silent, files_at, known_on, length-take-le, lent, made, party_at, served_by, server_course, server_service, serves-append, serves-one, silent-settled, stop_at_put, store_at, store_on, take-append-drop, uncut, with_server, ⊤, SendsFor, server_pending}
+use Rattle.server_node.proofs.Names.{AtDisk, Command, CutsOffAmongReads, DiskFault, EndsOver, FailsBy, Finished, GaveAll, Ghosts, GivesNext, Halt, HasAirCause, IsButLast, IsFront, IsKnown, IsLawful, IsReady, IsRecovered, IsSaid, IsUp, LentParty, NodeEvent, NodeEvents, NodeStop, OwesRest, Run, RunsOn, RunsTo, Seen, Served, ServesAt, Service, StandsBy, StopsOn, StopsTo, Store, StoreState, TookTurns, Turn, TurnTerms, TurnsBy, WholeBy, at, common_steps, cuts-among-none, empties-silent, files_at, known_on, length-take-le, lent, made, party_at, served_by, server_course, server_service, serves-append, serves-one, silent-settled, stop_at_put, store_at, store_on, take-append-drop, uncut, with_server, ⊤, SendsFor, server_pending}
 use Rattle.server_node.proofs.StepsLemmas.{AreSteps, DidOnDisk, did-all, did-stop, halt_by, puts-answered, puts-still, runs-none, runs-then, stays, stop-one, stops-more, stops-then}
 use Rattle.server_node.specs.declared.terms.ServerTerms.{ServerTerms}
 use Rattle.server_node.specs.OnAir.Served.{ServerRan, server_from}
@@ -232,7 +232,7 @@ pub started : {D : Type 0} (g : Ghosts D) (terms : ServerTerms) (blocks : ℕ) (
 started g terms blocks old mid station server same recovered is silent =
     rw same (record { silent = silent; ready = recovered.ready }, record { is = is (store_on g server.store mid); silent = refl })
 
-module _ {A C D : Type 0} (seen : Seen D A C) (terms : ServerTerms) (old new : Driven ServerStation D A C) (ended : Result Finished NodeStop)
+module _ {A C D : Type 0} (seen : Seen D A C) (terms : ServerTerms) (old new : LentParty ServerStation D A C) (ended : Result Finished NodeStop)
     (took : TookTurns (NodeEvents terms.me) (server_course seen.disk) seen.air seen.given old new (turn_terms terms) ended) where
   module _ (lasts : (disk : D) → seen.disk.lasts disk disk) (on : (first second third : D) → seen.disk.lasts first second → seen.disk.lasts second third → seen.disk.lasts first third) (up : IsUp seen.disk (party_at old))
       {T : Type 0} (disk : D) (value : T) (recovers : Recovers {T = T} seen.disk terms.limits.blocks disk old.disk value old.party.server.store) (serving : ServesAt seen.disk (party_at old) (server_from terms (files_at seen.disk (party_at old)))) where

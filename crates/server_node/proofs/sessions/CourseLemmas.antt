@@ -298,7 +298,7 @@ module _ {D : Type 0} (g : Ghosts D) (lasts : (disk : D) → g.lasts disk disk) 
 
       module _ (known : IsKnown g start.disk) (an : Answers g start (replying []) (events_to start.it inputs) h.replies) where
         packet : Sent g a.store disk disk_n a.state state_n out_n puts.fails
-        packet = due-among g a.store disk disk_n a.state state_n out out_n puts h.ready (known_on g start.disk disk h.puts.told known)
+        packet = due-among g a.store disk disk_n a.state state_n out out_n (lasts disk) puts h.ready (known_on g start.disk disk h.puts.told known)
 
         abbrev said_n : List PacketValue
         said_n = an.said ++ packet.next.packet ∷ []
@@ -331,7 +331,7 @@ module _ {D : Type 0} (g : Ghosts D) (lasts : (disk : D) → g.lasts disk disk) 
         replies = h.replies ++ out_n;
         text_is = ap (λ (t : List ℕ). t ++ out_n) h.text_is ∙ append_assoc start.it.replies h.replies out_n;
         one = one-more (events_to start.it inputs) h.one;
-        puts = puts-among-then g on ⊥ ⊥ start.disk disk disk_n (λ never. never) h.puts (puts-among-reads g (IsTrue puts.fails) ⊥ disk disk_n (λ never. never) puts.reads);
+        puts = puts-among-then g on ⊥ ⊥ start.disk disk disk_n (λ never. never) h.puts (puts-among-reads g (IsTrue puts.fails) ⊥ disk disk_n (lasts disk) (λ never. never) puts.reads);
         answers = λ known. answers-more known (h.answers known);
       }
 

@@ -3,7 +3,7 @@ use Rattle.std.proofs.Common.{◌≡◌, ap, sym, ◌∙◌, subst, ◌⊎◌, i
 use Rattle.px_base.proofs.Told.{Grows-trans}
 use Rattle.node.specs.declared.stop.NodeStop.TheVariants as stop
 use Rattle.server_node.specs.declared.terms.SessionTerms.{SessionTerms}
-use Rattle.server_node.proofs.Names.{AreHandedOver, AtDisk, Brings, CallSign, Driven, Event, Finished, Ghosts, GoesOver, HaltsOver, HasAirCause, Input, IsButLast, IsGreeted, IsKnown, IsOctets, IsUngreeted, MomentsFrom, MomentsOf, NodeStop, Run, Seen, Served, ServerState, Service, Session, SessionRan, Steps, StopsOn, Store, StoreState, TookTurns, Turn, TurnTerms, TurnsBy, at, brings-init, brings-more, brings-stream, common_steps, cuts-among-none, events_to, first_session, inputs_of, known_on, lent, login_text, new_server, nil_from_length, nothing_partial, octets_in, party_at, puts-among-same, served_by, session_course, session_service, session_steps, store_on, waiting_behind}
+use Rattle.server_node.proofs.Names.{AreHandedOver, AtDisk, Brings, CallSign, Event, Finished, Ghosts, GoesOver, HaltsOver, HasAirCause, Input, IsButLast, IsGreeted, IsKnown, IsOctets, IsUngreeted, LentParty, MomentsFrom, MomentsOf, NodeStop, Run, Seen, Served, ServerState, Service, Session, SessionRan, Steps, StopsOn, Store, StoreState, TookTurns, Turn, TurnTerms, TurnsBy, at, brings-init, brings-more, brings-stream, common_steps, cuts-among-none, events_to, first_session, inputs_of, known_on, lent, login_text, new_server, nil_from_length, nothing_partial, octets_in, party_at, puts-among-same, served_by, session_course, session_service, session_steps, store_on, waiting_behind}
 use Rattle.server_node.proofs.Ending.{Came, Recovers, Serves, Stopped, Taken, append-none, but_last, came-by, run_of, served}
 use Rattle.server_node.proofs.StepsLemmas.{DidOnDisk, did-all, did-stop}
 use Rattle.server_node.proofs.sessions.PacketLemmas.{both-octets, brings-of, events-then}
@@ -40,7 +40,7 @@ Ran known terms result start run = SessionRan known terms start run result
 
 -- the session was served over the store that was recovered, from the moment of LOGIN_RESP on
 module _ {A C D : Type 0} (seen : Seen D A C) (terms : SessionTerms) (first : ℕ) (start : StoreState) (mid : D) (air : A) (clock : C)
-    (new : Driven ServerState D A C) (ended : Result Finished NodeStop) where
+    (new : LentParty ServerState D A C) (ended : Result Finished NodeStop) where
   abbrev g : Ghosts D
   g = seen.disk
 
@@ -50,7 +50,7 @@ module _ {A C D : Type 0} (seen : Seen D A C) (terms : SessionTerms) (first : �
   abbrev turn_terms : TurnTerms
   turn_terms = record { polls = terms.polls; given = terms.moment; first = Some first }
 
-  abbrev old : Driven ServerState D A C
+  abbrev old : LentParty ServerState D A C
   old = record { party = server; disk = mid; air = air; clock = clock }
 
   module _ (took : TookTurns AreHandedOver (session_course g) seen.air seen.given old new turn_terms ended)

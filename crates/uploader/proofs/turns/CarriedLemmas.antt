@@ -1,11 +1,11 @@
 -- What is carried out, from the asking to the answer.
 use Rattle.std.proofs.Common.{◌≡◌, ◌⊎◌, ℕ, List, [], ◌∷◌, ◌++◌, length, Bool, false, true, Result, Ok, Err, refl, ap, sym, subst, ◌∙◌, inl, inr, suc, arith, append-nil, ◌≢◌, None, IsErrOf}
+use Rattle.px_base.specs.Octets.{IsFront}
 use Rattle.px_base.specs.Polling.{IsButLast}
-use Rattle.node.specs.Turns.{Lent, lent}
 use Rattle.node.specs.declared.finished.Finished.TheVariants as finished
 use Rattle.node.specs.declared.stop.NodeStop.TheVariants as stop
 use Rattle.uploader.specs.declared.stop.SendStop.TheVariants as send_stop
-use Rattle.uploader.proofs.Names.{Option, Turn, Gains-none, Grows-none, Ghosts, NotesCommand, Lists, IsReady, NotesState, AtDisk, at, NodeEvent, NodeEvents, OneRunLaw, Seen, Brought, HasAirCause, IsUnsaid, RanBy, StoppedInLast, TookAll, TookTurns, TurnsBy, party_at, Finished, NodeStop, HasAsked, Client, ClientEvent, IsSilent, asking, asks, ClientState, IsClient, MayHear, outcome_in, GoesLaw, GoesOver, is_over, IsNew, NotesGoWith, OneStepLaw, outcome_by, JobState, Outcome, SendStop, answer_of, CutsOff, CarriesOut, ClientRan, CountsWhere, EndsOver, IsOpenBeforeEach, MayCarryOut, Run, asked_first, before_last, StopsBehind, StopsOver, TakesAll, CameOf, CameToSome, Past, StoppedAt, client_course, further, ClientStation, cuts-none, does-nothing}
+use Rattle.uploader.proofs.Names.{Option, Turn, Gains-none, Grows-none, Ghosts, NotesCommand, Lists, IsReady, NotesState, AtDisk, at, NodeEvent, NodeEvents, OneRunLaw, Seen, Brought, HasAirCause, IsUnsaid, LentParty, RanBy, StoppedInLast, TookAll, TookTurns, TurnsBy, lent_party, party_at, Finished, NodeStop, HasAsked, Client, ClientEvent, IsSilent, asking, asks, ClientState, IsClient, MayHear, outcome_in, GoesLaw, GoesOver, is_over, IsNew, NotesGoWith, OneStepLaw, outcome_by, JobState, Outcome, SendStop, answer_of, CutsOff, CarriesOut, ClientRan, CountsWhere, EndsOver, IsOpenBeforeEach, MayCarryOut, Run, asked_first, before_last, StopsBehind, StopsOver, TakesAll, text_of, CameOf, CameToSome, Past, StoppedAt, client_course, further, ClientStation, cuts-none, does-nothing}
 use Rattle.uploader.proofs.turns.CourseLemmas.{came-silent, came-whole, closed-done, closed-over, goes-alike, no-split, owes-more, promised, tells-of}
 
 -- ---- the turns but the last
@@ -88,7 +88,7 @@ record CameOut {D : Type 0} (g : Ghosts D) (past : Past D) (all : Brought NodeEv
   came : reached ≢ None → CameToSome new.it.client past.base (asked_first past.job ran.events) reached
 
 module _ {A C D : Type 0} (see : Seen D A C) (lasts : (disk : D) → see.disk.lasts disk disk) (one_run : OneRunLaw) (one_step : OneStepLaw) (law : GoesLaw) (old : ClientState) (base : Client) (job : JobState)
-    (from to : Lent ClientStation D A C) (came_of : CameOf see.disk (asked_past old from.disk base job) (party_at from)) (polls : ℕ) (closing : Result Finished NodeStop)
+    (from to : LentParty ClientStation D A C) (came_of : CameOf see.disk (asked_past old from.disk base job) (party_at from)) (polls : ℕ) (closing : Result Finished NodeStop)
     (h : TookTurns (NodeEvents base.me) (client_course see.disk) see.air see.given from to (record { polls = polls; given = None; first = None }) closing) where
   abbrev past : Past D
   past = asked_past old from.disk base job
@@ -102,17 +102,19 @@ module _ {A C D : Type 0} (see : Seen D A C) (lasts : (disk : D) → see.disk.la
   abbrev Out : Result Finished NodeStop → Type 0
   Out ended = CameOut see.disk past h.all polls ended h.text new
 
-  -- before each turn it wasn't over
-  open-each : IsOpenBeforeEach base job h.all.moments h.all.turns
+  -- before each turn it wasn't over, and what it had said is a front of what it said
+  open-each : IsOpenBeforeEach base job h.all.moments h.all.turns h.text
   open-each earlier next later before behind events frames commands client split moments_split same brings goes =
       let then_is = h.open_before earlier next later before behind split moments_split same in
-      let came : CameOf see.disk (further past then_is.0 then_is.2) then_is.3 = then_is.4.1 past came_of in
+      let came : CameOf see.disk (further past then_is.0 then_is.2) then_is.4 = then_is.5.1 past came_of in
       let same_events : then_is.0 ≡ events = one_run base.me earlier before then_is.0 events then_is.1 brings in
       let own : GoesOver base (asked_first job events) came.frames came.commands came.now =
-      subst (λ (es : List NodeEvent). GoesOver base (asked_first job es) came.frames came.commands came.now) same_events (came-silent see.disk (further past then_is.0 then_is.2) then_is.3 came then_is.4.0.silent) in
-      ap is_over (goes-alike one_step base (asked_first job events) frames came.frames commands came.commands client came.now goes own)
-      ∙ sym (closed-over then_is.3.it.client came.now came.is then_is.4.0.quiet)
-      ∙ then_is.5
+      subst (λ (es : List NodeEvent). GoesOver base (asked_first job es) came.frames came.commands came.now) same_events (came-silent see.disk (further past then_is.0 then_is.2) then_is.4 came then_is.5.0.silent) in
+      let alike = goes-alike one_step base (asked_first job events) frames came.frames commands came.commands client came.now goes own in
+      let said : then_is.2 ≡ text_of frames = came.text_is ∙ ap text_of (sym alike.1) in (
+        ap is_over alike.0 ∙ sym (closed-over then_is.4.it.client came.now came.is then_is.5.0.quiet) ∙ then_is.6,
+        subst (λ (t : List ℕ). IsFront t h.text) said then_is.3,
+      )
 
   -- the events of all turns but the last
   last-brought : (last : ButLast h.all.turns h.all.moments) → IsButLast h.all.turns last.earlier → (least : List NodeEvent) × NodeEvents base.me last.earlier last.before least
@@ -271,7 +273,7 @@ module _ {A C D : Type 0} (see : Seen D A C) (lasts : (disk : D) → see.disk.la
   now = to.party.client
 
   pub carries : (result : Result Outcome SendStop) → result ≡ answer_of closing (outcome_in now.attempt)
-      → CarriesOut see (lent old from.disk from.air from.clock) (lent now to.disk to.air to.clock) job polls base result
+      → CarriesOut see (lent_party old from.disk from.air from.clock) (lent_party now to.disk to.air to.clock) job polls base result
   carries result is =
       let came = came-by closing h.ends h.counts h.ran in
       let out : Out closing = came.0 in
@@ -315,7 +317,7 @@ module _ {A C D : Type 0} (see : Seen D A C) (lasts : (disk : D) → see.disk.la
     }
 
   -- there was no memory for the attempt
-  pub refused-carries : (polls : ℕ) (base : Client) (air : A) (clock : C) (new : ClientState) → new ≡ old → CarriesOut see (lent old disk air clock) (lent new disk air clock) job polls base (Err send_stop.OutOfMemory)
+  pub refused-carries : (polls : ℕ) (base : Client) (air : A) (clock : C) (new : ClientState) → new ≡ old → CarriesOut see (lent_party old disk air clock) (lent_party new disk air clock) job polls base (Err send_stop.OutOfMemory)
   refused-carries polls base air clock new same =
       let stops : StopsOver base (asks job ∷ []) stop.OutOfMemory None [] [] [] =
       record {

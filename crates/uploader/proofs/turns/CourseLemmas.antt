@@ -61,13 +61,14 @@ goes-append client (e ∷ events) frames commands mid others more further now h 
   goes-append h.2 events h.4 h.3 mid others more further now h.8 k,
 )
 
--- by one law of its steps a client comes to one client
+-- by one law of its steps a client comes to one client, and sends the same frames
 pub goes-alike : OneStepLaw → (client : Client) (events : List ClientEvent) (frames others : List FrameValue) (commands those : List NotesCommand) (now that : Client)
-    → GoesOver client events frames commands now → GoesOver client events others those that → now ≡ that
-goes-alike law client [] frames others commands those now that h k = h.2 ∙ sym k.2
+    → GoesOver client events frames commands now → GoesOver client events others those that → (now ≡ that) × (frames ≡ others)
+goes-alike law client [] frames others commands those now that h k = (h.2 ∙ sym k.2, h.0 ∙ sym k.0)
 goes-alike law client (e ∷ events) frames others commands those now that h k =
     let same = law client e h.0 k.0 h.1 k.1 h.2 k.2 h.5 k.5 in
-    goes-alike law h.2 events h.4 k.4 h.3 k.3 now that h.8 (subst (λ (c : Client). GoesOver c events k.4 k.3 that) (sym same.client) k.8)
+    let rest = goes-alike law h.2 events h.4 k.4 h.3 k.3 now that h.8 (subst (λ (c : Client). GoesOver c events k.4 k.3 that) (sym same.client) k.8) in
+    (rest.0, h.6 ∙ ap (λ (fs : List FrameValue). fs ++ h.4) same.sent ∙ ap (λ (fs : List FrameValue). k.1 ++ fs) rest.1 ∙ sym k.6)
 
 -- a stop with further events behind it
 pub stops-longer : (whole : List ClientEvent) (client : Client) (events others : List ClientEvent) (why : NodeStop) (reached : Option Outcome) (text : List ℕ) (done cut : List NotesCommand)

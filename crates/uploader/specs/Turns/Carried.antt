@@ -1,6 +1,7 @@
 -- What a client says over its turns, what it does to its disk, why the turns end, and what the answer is.
 use Rattle.std.specs.Prelude.{◌≡◌, ◌≢◌, ℕ, ◌≤◌, List, [], ◌∷◌, ◌++◌, length, map, true, false}
 use Rattle.std.specs.Prelude.{Option, None, Result, Ok, Err, IsErrOf}
+use Rattle.px_base.specs.Octets.{IsFront}
 use Rattle.px_base.specs.Outside.{Gains, Grows, Rose}
 use Rattle.px_base.specs.Polling.{HearsAll, IsButLast}
 use Rattle.px_base.specs.declared.air.Turn.{Turn}
@@ -12,7 +13,7 @@ use Rattle.client_notes.specs.State.{IsReady}
 use Rattle.client_notes.specs.Several.{CutsOff}
 use Rattle.node.specs.Events.{NodeEvent, NodeEvents}
 use Rattle.node.specs.Lent.{Seen}
-use Rattle.node.specs.Turns.{Lent, TurnsBy}
+use Rattle.node.specs.Turns.{LentParty, TurnsBy}
 use Rattle.node.specs.declared.finished.Finished.{Finished}
 use Rattle.node.specs.declared.finished.Finished.TheVariants as finished
 use Rattle.node.specs.declared.stop.NodeStop.{NodeStop}
@@ -25,7 +26,7 @@ use Rattle.ftl0_client.specs.Going.{GoesOver, Promises, is_over}
 use Rattle.ftl0_client.specs.Outcome.{Outcome}
 use Rattle.uploader.specs.Stops.{answer_of}
 use Rattle.uploader.specs.Turns.Came.{CameWith}
-use Rattle.uploader.specs.Turns.Carrying.{StopsBehind, TakesAll, event_of}
+use Rattle.uploader.specs.Turns.Carrying.{StopsBehind, TakesAll, event_of, text_of}
 use Rattle.uploader.specs.declared.stop.SendStop.{SendStop}
 
 -- What a client needs for its turns: its notes are ready, and nothing is to be sent.
@@ -84,14 +85,15 @@ abbrev pub before_last : List Turn → JobState → List NodeEvent → List Clie
 before_last [] job events = []
 before_last (next ∷ turns) job events = asked_first job events
 
--- Before each of these turns the client wasn't over: not after what is asked and what the turns before it bring.
-abbrev pub IsOpenBeforeEach : Client → JobState → List ℕ → List Turn → Type 0
-IsOpenBeforeEach base job moments turns =
+-- Before each of these turns the client wasn't over, after what is asked and what the turns before it bring; what it
+-- had said by then is a front of this text.
+abbrev pub IsOpenBeforeEach : Client → JobState → List ℕ → List Turn → List ℕ → Type 0
+IsOpenBeforeEach base job moments turns text =
     (earlier : List Turn) (next : Turn) (later : List Turn) (before behind : List ℕ) (events : List NodeEvent)
     (frames : List FrameValue) (commands : List NotesCommand) (client : Client)
     → turns ≡ earlier ++ next ∷ later → moments ≡ before ++ behind → length before ≡ length earlier
     → NodeEvents base.me earlier before events → GoesOver base (asked_first job events) frames commands client
-    → is_over client ≡ false
+    → (is_over client ≡ false) × IsFront (text_of frames) text
 
 -- A client that was asked for a job took these turns, of which there are at most so many: this was said and noted, they
 -- ended so, and this became of the job. Nothing was heard after what ended them: a stop is at an event that only the
@@ -102,7 +104,7 @@ pub record ClientRan (base : Client) (job : JobState) (polls : ℕ) (run : Run) 
   pub brings : NodeEvents base.me run.turns run.moments events
   pub bound : length run.turns ≤ polls
   pub ends : TurnsBy run.ended polls run.turns
-  pub open_before : IsOpenBeforeEach base job run.moments run.turns
+  pub open_before : IsOpenBeforeEach base job run.moments run.turns run.text
   pub earlier : List Turn
   pub but_last : IsButLast run.turns earlier
   pub earlier_moments : List ℕ
@@ -139,7 +141,7 @@ pub record Became (base : Client) (job : JobState) (events : List NodeEvent) (li
 
 -- A client that stands for this one was asked for a job, and took turns: what was heard, given and said, what was
 -- noted, why the turns ended, what became of the job, and what a command makes of that.
-pub record CarriesOut {A C D : Type 0} (see : Seen D A C) (old new : Lent ClientState D A C) (job : JobState)
+pub record CarriesOut {A C D : Type 0} (see : Seen D A C) (old new : LentParty ClientState D A C) (job : JobState)
     (polls : ℕ) (base : Client) (result : Result Outcome SendStop) : Type 0 where
   pub run : Run
   pub answer : result ≡ answer_of run.ended run.reached

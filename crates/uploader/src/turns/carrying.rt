@@ -2,7 +2,7 @@
 
 ghost use Rattle.std.specs.Prelude.{◌≡◌};
 ghost use Rattle.node.specs.Lent.{seen};
-ghost use Rattle.node.specs.Turns.{lent};
+ghost use Rattle.node.specs.Turns.{lent_party};
 ghost use Rattle.ftl0_client.specs.Client.{Client as ClientValue};
 ghost use Rattle.ftl0_client.specs.ClientState.{IsClient};
 ghost use Rattle.uploader.specs.Stops.{answer_of, stop_of_turns};
@@ -43,8 +43,8 @@ pub(crate) fn carry_out<D: Disk, A: Air, C: Clock>(
 
     // What was heard, given, said and noted, why the turns ended, and what the answer is.
     ensures carried { (base : ClientValue) → IsClient client base →
-        CarriesOut (seen D.Disk A.Air C.given) (lent client disk.old air.old clock.old)
-        (lent result.0 disk.new air.new clock.new) job polls base result.1 }
+        CarriesOut (seen D.Disk A.Air C.given) (lent_party client disk.old air.old clock.old)
+        (lent_party result.0 disk.new air.new clock.new) job polls base result.1 }
 {
     // What the client stands for, and what it comes to, event by event.
     client.some_law();

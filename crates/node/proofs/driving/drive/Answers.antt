@@ -1,6 +1,6 @@
 -- The station's turns.
 use Rattle.std.proofs.Common.{[], None, subst, sym, ◌∙◌, ap}
-use Rattle.node.proofs.Names.{at, NodeEvents, TookTurns, lent}
+use Rattle.node.proofs.Names.{at, NodeEvents, TookTurns, lent_party}
 use Rattle.node.proofs.DriveLemmas.{owes-first, station-turns}
 use Rattle.node.proofs.driving.drive.Goals as goal
 
@@ -18,8 +18,8 @@ returns g c =
     record {
       turns =
           subst
-          (λ s. TookTurns (NodeEvents c.args.me) g.S.Station.course g.A.Air g.C.Clock.given (lent s c.args.disk.now c.args.air.now c.args.clock.now)
-          (lent new.party.station new.disk new.air new.clock) c.args.terms.now ended.result) node.station
-          (station-turns g.S.Station.me g.S.Station.course g.A.Air g.C.Clock.given c.args.terms.now c.args.me (lent c.new-node.result c.args.disk.now c.args.air.now c.args.clock.now)
-          (lent new.party new.disk new.air new.clock) ended.result (ap (λ s. g.S.Station.me s) node.station ∙ c.requires.me) node.heard ended.ensures.turns);
+          (λ s. TookTurns (NodeEvents c.args.me) g.S.Station.course g.A.Air g.C.Clock.given (lent_party s c.args.disk.now c.args.air.now c.args.clock.now)
+          (lent_party new.party.station new.disk new.air new.clock) c.args.terms.now ended.result) node.station
+          (station-turns g.S.Station.me g.S.Station.course g.A.Air g.C.Clock.given c.args.terms.now c.args.me (lent_party c.new-node.result c.args.disk.now c.args.air.now c.args.clock.now)
+          (lent_party new.party new.disk new.air new.clock) ended.result (ap (λ s. g.S.Station.me s) node.station ∙ c.requires.me) node.heard ended.ensures.turns);
     }

@@ -25,7 +25,7 @@ returns-in_err-taken g c =
     (takes-before g.P.Party.course g.A.Air c.is_lawful.ensures c.args.air.now c.hear_piece.new.air old new (first ++ then_are) others c.in_err-taken.field-0.0
     (inputs-behind (first ++ then_are) others (subst (AllByRecursion IsInput) parts (octets-inputs moment c.args.octets.now (octets_from_fits c.args.octets.now c.type_inv.octets))))
     (takes-then g.P.Party.course g.A.Air c.is_lawful.ensures c.args.air.now c.loop-piece.air c.hear_piece.new.air old (at c.loop-piece.party c.loop-piece.disk) new first then_are
-    (Err c.in_err-taken.field-0.0) h.2 k.1)))
+    (Err c.in_err-taken.field-0.0) h.2 k.3)))
 
 pub loop-piece-preserved : goal.loop-piece-preserved
 loop-piece-preserved g c =

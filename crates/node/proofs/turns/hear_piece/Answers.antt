@@ -10,6 +10,8 @@ returns-in_err-put_all-in-Ok g c =
     at_exit (λ r. TakesPiece (Takes g.P.Party.course g.A.Air c.args.air.now c.put_all.new.air (at c.args.party.now c.args.disk.now) (at c.put_all.new.party c.put_all.new.disk)) (octets_at c.args.moment) c.args.piece.now r)
     c.from_residual.result stop.AirWrite c.from_residual.ensures.1 (
       c.in-Ok.taken,
+      c.in-Ok.ensures.some,
+      c.in-Ok.ensures.within,
       taken-unsaid g.P.Party.course g.A.Air c.args.air.now c.put_all.new.air (at c.args.party.now c.args.disk.now) (at c.hear.new.self c.hear.new.disk) (at c.put_all.new.party c.put_all.new.disk)
           (octets_at c.args.moment (take c.in-Ok.taken c.args.piece.now)) c.in_err-put_all-in-Ok.field-0.0 c.in-Ok.ensures.takes c.in_err-put_all-in-Ok.ensures,
     )
@@ -21,4 +23,4 @@ put_all-requires g c =
 pub put_all-requires-in-Err : goal.put_all-requires-in-Err
 put_all-requires-in-Err g c =
     let h = c.in-Err.ensures.halts in
-    (at c.args.party.now c.args.disk.now, octets_at c.args.moment (take h.0 c.args.piece.now), Some h.1.0, [], h.1.2)
+    (at c.args.party.now c.args.disk.now, octets_at c.args.moment (take h.0 c.args.piece.now), Some h.3.0, [], h.3.2)

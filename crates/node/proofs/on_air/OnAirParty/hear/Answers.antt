@@ -64,6 +64,8 @@ returns-in-Err-clause-halts g c =
     let mid = c.pass-count.new.self in
     let halt = c.in-Err.ensures.takes in (
       count + 1,
+      omega arith,
+      omega (arith, c.pass-count.ensures.within, c.loop-count-test.true),
       (
         halt.0,
         halt.1,

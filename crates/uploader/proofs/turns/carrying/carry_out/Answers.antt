@@ -1,7 +1,6 @@
 -- The job is asked, and the station of the client takes turns.
 use Rattle.std.proofs.Common.{None, false, refl, sym, subst, ap, ◌∙◌}
-use Rattle.node.specs.Turns.{lent}
-use Rattle.uploader.proofs.Names.{CallSign, at, NodeEvents, seen, TookTurns, HasAsked, IsClient, answer_of, client_course, ClientStation}
+use Rattle.uploader.proofs.Names.{CallSign, at, NodeEvents, seen, TookTurns, lent_party, HasAsked, IsClient, answer_of, client_course, ClientStation}
 use Rattle.uploader.proofs.turns.CarriedLemmas.{came-asked, carries, may-asked, refused-carries}
 use Rattle.uploader.proofs.turns.CourseLemmas.{owes-none}
 use Rattle.uploader.proofs.turns.carrying.carry_out.Goals as goal
@@ -24,8 +23,8 @@ returns g c =
     let see = seen g.D.Disk g.A.Air g.C.Clock.given in
     let drove = c.drive-station in
     let station : ClientStation = record { client = c.ask.new.self; halted = false } in
-    let from = lent station c.args.disk.now c.args.air.now c.args.clock.now in
-    let to = lent drove.result.0 drove.new.disk drove.new.air drove.new.clock in
+    let from = lent_party station c.args.disk.now c.args.air.now c.args.clock.now in
+    let to = lent_party drove.result.0 drove.new.disk drove.new.air drove.new.clock in
     let has = subst (λ old. HasAsked old c.ask.new.self) c.sends_nothing.ensures.same c.in-Ok.ensures.notes in
     record {
       carried = λ base is.

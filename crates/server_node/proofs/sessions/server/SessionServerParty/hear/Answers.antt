@@ -44,4 +44,4 @@ returns-in-Err-clause-halts g c =
     piece (octets_from_fits piece c.type_inv.piece) taken c.feed-taken.new.self c.feed-taken.ensures.octets (item_of c.packet.result) c.packet.ensures.text (c.feed-taken.ensures.readable.0 c.in-Whole.is)
     now new.disk new.replies.items (caller_of new.self) c.in-Err.fault
     (rw c.in-Err.is at c.take-answer.ensures.takes) in
-    (taken, (halt.Disk, c.from.ensures, rw (sym c.self.view_is) owes))
+    (taken, c.feed-taken.ensures.progress c.requires.some, c.feed-taken.ensures.taken, (halt.Disk, c.from.ensures, rw (sym c.self.view_is) owes))
