@@ -32,7 +32,7 @@ use Rattle.ax25_frames.specs.FrameText.{FrameValue}
 use Rattle.server_node.specs.OnAir.Serving.{server_steps}
 use Rattle.ftl0_server.proofs.Offered.{serves}
 use Rattle.node.specs.Events.{NodeEvent}
-use Rattle.acknowledged_laws.proofs.Names.{slice_index, Ok, Err, IsErrOf, Result, CallSign, texts, Item, PacketValue, data_end, ul_ack_resp, Entry, Holding, Store, complete, entry_of, partial, Row, State, command, due_at, fault_reply, receiving, session_row, is_all, is_upload_kind, whole_row, runs, runs-trans, Seen}
+use Rattle.acknowledged_laws.proofs.Names.{slice_index, Ok, Err, IsErrOf, Result, CallSign, texts, Item, PacketValue, data_end, ul_ack_resp, Entry, Holding, Store, complete, entry_of, partial, Row, State, command, due_at, fault_reply, receiving, session_row, runs, runs-trans, Seen}
 use Rattle.acknowledged_laws.proofs.AckLemmas.{IsAllGood, acks, is_ack, row-acks}
 use Rattle.acknowledged_laws.specs.Acknowledged.{AcknowledgedSince, FileEnd, IsServerServed, IsSessionServed, MeetsEvent, ServerAcknowledgesLaw, ServerTakes, SessionAcknowledgesLaw, TakesPacket, row_of_end, taken_first}
 use Rattle.server_node.specs.OnAir.Served.{server_from}

@@ -1,7 +1,7 @@
 -- A session's end of the link makes its step: the attempt goes on.
 use Rattle.std.proofs.Common.{◌≡◌, ℕ, List, false, Option, None, Some, sym, subst, ◌∙◌}
 use Rattle.ax25_link.specs.LinkStep as step
-use Rattle.air_attempt.proofs.Names.{IfSome, concat, CallSign, IsFront, IsOctets, FrameValue, texts, IsLawful, Transmission, delivering, sending_all, Doing, Heard, Calling, Up, LinkEnd, Coming, LinkStep, AreLinked, IsQuiet, SendsOwn, prefix_law, AreFromTo, Attempt, IsAnswered, IsAnsweredBy, IsAttempt, IsEndOf, IsOneCall, client_station, server_station, IsSession, ServerSide, said_by_client}
+use Rattle.air_attempt.proofs.Names.{IfSome, concat, CallSign, IsFront, IsOctets, FrameValue, texts, IsLawful, Transmission, delivering, sending_all, Doing, Heard, Calling, Up, LinkEnd, LinkStep, AreLinked, IsQuiet, SendsOwn, prefix_law, AreFromTo, Attempt, IsAnswered, IsAnsweredBy, IsAttempt, IsEndOf, IsOneCall, client_station, server_station, IsSession, ServerSide, said_by_client}
 use Rattle.air_attempt.proofs.PacketLists.{octets-of_front}
 use Rattle.air_attempt.proofs.Sent.{stays-of}
 

@@ -43,7 +43,7 @@ module _ (old : Server) (frame : FrameValue) (moment : ℕ) where
 
 -- ---- the cases of a frame
 
--- no connection is at the lowest free place
+-- no connection is at the lowest empty place
 empty-seat : (slots : List Slot) (place : ℕ) (c : Connected) → first_empty slots ≡ Some place
     → slice_get slots place ≡ Some (connected c) → ⊥
 empty-seat slots place c first there =

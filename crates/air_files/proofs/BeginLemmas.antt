@@ -7,7 +7,7 @@ use Rattle.ftl0_job.specs.declared.work.Work.TheVariants as work
 use Rattle.ftl0_client.specs.Entries as job
 use Rattle.air_files.specs.DownloadDialogue as download
 use Rattle.air_files.specs.UploadDialogue.{silent}
-use Rattle.air_files.proofs.Names.{IfSome, drop, slice_get, AllByRecursion, option_map, All-nil, IsOctets, PacketValue, ul_ack_resp, ul_error_resp, ul_go_resp, upload_cmd, Why, Store, IsDueIn, octets_due, State, command, download_part, greeting, receiving, SessionEntry, Work, Download, IsNotBegun, JobState, outcome_by, JobEntry, Attempt, Has, OneIs, Asked, Party, all_over, over, sessions_over, IsAnswer, IsTaken, Took, octets_said, ClientSide, ServerSide, said_by_client, said_by_server, each-weaker, some-weaker, IsListSaid, IsOfListing, Says, Serves, FetchesBy, FetchesIn, GoesOnWithTask, HasFacts, IsFetching, IsGranted, coming_by, IsBeginning, IsGreeted, with_attempt, answered_in, unasked}
+use Rattle.air_files.proofs.Names.{IfSome, drop, slice_get, AllByRecursion, option_map, All-nil, IsOctets, PacketValue, ul_ack_resp, ul_error_resp, ul_go_resp, upload_cmd, Why, Store, IsDueIn, octets_due, State, command, download_part, greeting, receiving, Work, Download, IsNotBegun, JobState, outcome_by, JobEntry, Attempt, Has, OneIs, Asked, Party, all_over, over, sessions_over, IsAnswer, IsTaken, Took, octets_said, ClientSide, ServerSide, said_by_client, said_by_server, each-weaker, some-weaker, IsListSaid, IsOfListing, Says, Serves, FetchesBy, FetchesIn, GoesOnWithTask, HasFacts, IsFetching, IsGranted, coming_by, IsBeginning, IsGreeted, with_attempt, answered_in, unasked}
 use Rattle.air_files.proofs.ApartLemmas.{HasClientFacts, HasFactsApart, HasSideFacts, apart, together}
 use Rattle.air_files.proofs.GoneLemmas.{facts-over, like-fetches_by}
 use Rattle.air_files.proofs.LikeLemmas.{like-client, like-side, number-like}

@@ -5,7 +5,7 @@ use Rattle.std.proofs.Common.{append-nil, take-append-drop, add-zero}
 use Rattle.std.proofs.lemmas.List.Folds.{concat-append}
 use Rattle.ftl0_session.specs.Downloads.Table as download
 use Rattle.ftl0_session.specs.Table.{DuePacket}
-use Rattle.air_files.proofs.Names.{concat, nat_tests, drop-drop, drop-append-add, data_end, data_part, Store, most_data, octets_due, file_of, octets_in, next_due, sending, waiting, take-all, file-complete, AreAllSent, AreSentFrom}
+use Rattle.air_files.proofs.Names.{concat, nat_tests, drop-drop, drop-append-add, data_end, data_part, Store, most_data, octets_due, file_of, next_due, sending, waiting, take-all, file-complete, AreAllSent, AreSentFrom}
 
 -- the packet that goes on with the file, where these octets of it are left
 abbrev pub rest_due : ℕ → ℕ → ℕ → List ℕ → DuePacket

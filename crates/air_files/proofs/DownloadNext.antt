@@ -3,7 +3,7 @@ use Rattle.std.proofs.Common.{◌≡◌, ◌≢◌, inl, inr, ℕ, List, [], ◌
 use Rattle.ftl0_server.specs.Entries as session
 use Rattle.ftl0_client.specs.Entries as job
 use Rattle.air_files.specs.DownloadDialogue.{unasked}
-use Rattle.air_files.proofs.Names.{Ok, AllByRecursion, Item, PacketValue, data_end, data_part, download_cmd, SessionEntry, JobEntry, Attempt, ClientTookFront, ServerTookFront, AreFirstOf, Has, Took, IsGreeting, ServerSide, said_by_client, said_by_server, flat_map-one, one-left, Fetching, IsFetchingFile, IsWord, SaysDownload, Sending, asked, ended, fetching_said, refused, sending_items, sending_said, sends, silent, told, waits, answered_in}
+use Rattle.air_files.proofs.Names.{Ok, AllByRecursion, Item, PacketValue, data_end, data_part, download_cmd, SessionEntry, Attempt, ClientTookFront, ServerTookFront, AreFirstOf, Has, Took, IsGreeting, ServerSide, said_by_client, said_by_server, flat_map-one, one-left, Fetching, IsFetchingFile, IsWord, SaysDownload, Sending, asked, ended, fetching_said, refused, sending_items, sending_said, sends, silent, told, waits, answered_in}
 use Rattle.air_files.proofs.JobTook.{took-item}
 use Rattle.air_files.proofs.UploadNext.{answered-all}
 

@@ -4,7 +4,7 @@ use Rattle.std.proofs.Common.{◌∙◌, subst, Bool, false, Some, arith, append
 use Rattle.ftl0_session.specs.Table.{DuePacket}
 use Rattle.ftl0_server.specs.Entries as session
 use Rattle.air_files.specs.DownloadDialogue.{unasked}
-use Rattle.air_files.proofs.Names.{Ok, concat, map-append, All-drop, All-take, IsOctets, Item, PacketValue, data_end, data_part, download_cmd, Store, most_data, Session, State, command, next_due, sending, waiting, file-complete, SessionEntry, Attempt, ServerTookFront, AreFirstOf as AreFirstIn, Party, ServerSide, said_by_client, flat_map-one, AreSent, AreSentFrom, IsSendingState, Sending, ended, refused, sending_items, sending_said, sends, waits, answered_by, answered_in}
+use Rattle.air_files.proofs.Names.{Ok, concat, map-append, All-drop, All-take, IsOctets, Item, PacketValue, data_end, data_part, download_cmd, Store, most_data, Session, State, command, next_due, sending, waiting, file-complete, Attempt, ServerTookFront, AreFirstOf as AreFirstIn, Party, ServerSide, said_by_client, flat_map-one, AreSent, AreSentFrom, IsSendingState, Sending, ended, refused, sending_items, sending_said, sends, waits, answered_by, answered_in}
 use Rattle.air_files.proofs.DownloadComing.{comes-data}
 use Rattle.air_files.proofs.DownloadDue.{all-sent, due-then, left-is, left_then, more-sent, place-more, place-within}
 use Rattle.air_files.proofs.DownloadDue.{place_then, rest_due}

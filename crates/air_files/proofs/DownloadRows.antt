@@ -3,7 +3,7 @@ use Rattle.std.proofs.Common.{◌≡◌, ◌≢◌, inl, inr, ℕ, ◌≤◌, �
 use Rattle.std.proofs.Common.{None, Some, arith}
 use Rattle.ftl0_session.specs.Downloads.Table as download
 use Rattle.ftl0_session.specs.Table.{Row}
-use Rattle.air_files.proofs.Names.{Ok, nat_lt, nat_tests, CallSign, PacketValue, dl_aborted_resp, dl_ack_cmd, dl_completed_resp, dl_error_resp, dl_nak_cmd, download_cmd, Store, DownloadsLaw, DownloadRow, asked_file, asked_row, ended_row, file_of, file_row, lists_after, refused_row, CallerList, by_download, command, sending, session_row, waiting, IsLast, IsWord}
+use Rattle.air_files.proofs.Names.{Ok, nat_lt, nat_tests, CallSign, PacketValue, dl_aborted_resp, dl_ack_cmd, dl_completed_resp, dl_error_resp, dl_nak_cmd, download_cmd, Store, DownloadsLaw, asked_file, asked_row, ended_row, file_of, file_row, CallerList, by_download, command, sending, session_row, waiting, IsLast, IsWord}
 
 -- the row of a command that is refused with this code
 abbrev pub refusal : List CallerList → ℕ → Row

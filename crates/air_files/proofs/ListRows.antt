@@ -7,7 +7,7 @@ use Rattle.selection.specs.declared.fault.SelFault.{SelFault}
 use Rattle.ftl0_session.specs.Downloads.Table as download
 use Rattle.ftl0_session.specs.Downloads.Table.{directory_row}
 use Rattle.ftl0_session.specs.Table.{Row, error_row}
-use Rattle.air_files.proofs.Names.{Ok, Err, Result, nat_lt, AllByRecursion, flat_map, list_all, All-nil, CallSign, IsOctets, Fits, PacketValue, dir_short_cmd, dl_error_resp, select_cmd, Tree, Store, DownloadsLaw, AreComplete, IsDueIn, octets_due, DownloadRow, Due, chosen, files_row, has_file, listed_files, lists_after, octets_in, refused_row, select_row, short_due, short_octets, tree_row, CallerList, State, by_download, command, download_part, listing, session_row, all-complete, IsOfListing, IsSoundStore}
+use Rattle.air_files.proofs.Names.{Ok, Err, Result, nat_lt, AllByRecursion, flat_map, list_all, All-nil, CallSign, IsOctets, Fits, PacketValue, dir_short_cmd, dl_error_resp, select_cmd, Tree, Store, DownloadsLaw, AreComplete, IsDueIn, octets_due, DownloadRow, Due, chosen, has_file, listed_files, lists_after, octets_in, refused_row, select_row, short_due, short_octets, tree_row, CallerList, State, by_download, command, download_part, listing, session_row, all-complete, IsOfListing, IsSoundStore}
 use Rattle.air_files.proofs.ListFiles.{chosen-few, chosen-files, selected-files, taking-files}
 use Rattle.air_files.proofs.ShortOctets.{shorts-octets}
 

@@ -6,7 +6,7 @@ use Rattle.ftl0_session.specs.Table.{Row}
 use Rattle.ftl0_server.specs.Entries as session
 use Rattle.ftl0_server.specs.Entries.{GoesBy, row_of}
 use Rattle.ftl0_job.specs.declared.work.Work.TheVariants as work
-use Rattle.air_files.proofs.Names.{IfSome, AllByRecursion, Fits, Item, PacketValue, data_end, data_part, dl_error_resp, select_resp, DownloadsLaw, AreComplete, Due, Session, State, command, listing, receiving, session_row, SessionEntry, after_row, Work, Directory, Attempt, ServerTookFront, Asked, EachAttempt, Party, ServerSide, said_by_client, each-append, each-weaker, flat_map-one, IsDueNow, IsListSaid, IsOfListing, Says, Serves, ServesList, IsDirectoryOf, IsOne, IsServed, SessionGoes, SessionKeeps, SessionLawOf, session_gone, with_attempt}
+use Rattle.air_files.proofs.Names.{IfSome, AllByRecursion, Fits, Item, PacketValue, data_end, data_part, dl_error_resp, select_resp, DownloadsLaw, AreComplete, Due, Session, State, command, listing, receiving, session_row, SessionEntry, Work, Directory, Attempt, ServerTookFront, Asked, EachAttempt, Party, ServerSide, said_by_client, each-append, each-weaker, flat_map-one, IsDueNow, IsListSaid, IsOfListing, Says, Serves, ServesList, IsDirectoryOf, IsOne, IsServed, SessionGoes, SessionKeeps, SessionLawOf, session_gone, with_attempt}
 use Rattle.air_files.proofs.FetchesOn.{ComesOn, fetching-on}
 use Rattle.air_files.proofs.GoneLemmas.{facts-over}
 use Rattle.air_files.proofs.ListRows.{IsListReply, IsListRow, IsListed, list-row}

@@ -5,7 +5,7 @@ use Rattle.ftl0_session.specs.Table.{Row}
 use Rattle.ftl0_session.specs.Uploads.Session as upload
 use Rattle.ftl0_server.specs.Entries as session
 use Rattle.ftl0_job.specs.declared.work.Work.TheVariants as work
-use Rattle.air_files.proofs.Names.{same_Some, CallSign, IsFront, ul_go_resp, FitsLength, Entry, Holding, Store, entry_of, octets_of, partial, found-fits, UploadsLaw, Session, by_upload, command, receiving, session_row, resumed_row, SessionEntry, Upload, Asked, Party, ServerSide, GoesOnWithTask, HasNumber, Receives, IsFileAt, IsServed, unasked}
+use Rattle.air_files.proofs.Names.{same_Some, CallSign, IsFront, ul_go_resp, FitsLength, Entry, Holding, Store, entry_of, octets_of, partial, found-fits, UploadsLaw, Session, by_upload, command, receiving, session_row, SessionEntry, Upload, Asked, Party, ServerSide, GoesOnWithTask, HasNumber, Receives, IsFileAt, IsServed, unasked}
 use Rattle.air_files.proofs.EntryLemmas.{with_entry}
 use Rattle.air_files.proofs.SideLemmas.{EntryDoes, RowDoes, done, gone_attempt, idle-does, idle_row, newest-client}
 use Rattle.air_files.proofs.SideLemmas.{side-kept, side-new}

@@ -3,7 +3,7 @@ use Rattle.std.proofs.Common.{◌≡◌, ◌⊎◌, inl, inr, ℕ, ◌+◌, ◌�
 use Rattle.std.proofs.Common.{refl, ap, sym, ◌∙◌, subst, arith, length-append, Option, None, Some}
 use Rattle.std.specs.Prelude.{if◌then◌else◌}
 use Rattle.ftl0_session.specs.Uploads.Session as upload
-use Rattle.ftl0_session.specs.Uploads.Session.{is_same_call, refused_row, upload_row}
+use Rattle.ftl0_session.specs.Uploads.Session.{refused_row, upload_row}
 use Rattle.ftl0_session.specs.Uploads.Session.{whole_row}
 use Rattle.ftl0_session.proofs.uploads.UploadRows.{theirs-decides}
 use Rattle.air_files.proofs.Names.{Ok, nat_le, IsTrue, Decides-eqb, nat_tests, CallSign, data_end, data_part, upload_cmd, fault_code, can_begin, has_room, passes, IsCompleteIn, is_complete, Entry, Holding, Store, complete, entry_of, octets_at, octets_of, partial, UploadsLaw, CallerList, by_upload, command, receiving, session_row, begin_row, continue_row, data_row, end_row, granted_row, is_all, is_theirs, resumed_row, taken_row}

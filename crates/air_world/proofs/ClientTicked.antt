@@ -4,7 +4,7 @@ use Rattle.std.proofs.Common.{append-nil}
 use Rattle.std.specs.Prelude.{if◌then◌else◌}
 use Rattle.ftl0_client.specs.Client.{ticks}
 use Rattle.ftl0_client.specs.Entries as job
-use Rattle.air_world.proofs.Names.{AllByRecursion, FrameValue, tick as coming_tick, NotesCommand, Attempted, ticking, with_end, AttemptStands, quietly, Client, ClientStep, JobEntry, StepsBy, StepsQuietly, sabm_of, Attempt, GoesWith, Party, with_newest, ClientDid, after_client_tick, after_event, beginning, called_again, did_by, has_call, job_gone_on, GoesOnWithTask, IsWork, Sound, ClientLaws, PartyAt, World}
+use Rattle.air_world.proofs.Names.{AllByRecursion, FrameValue, tick as coming_tick, NotesCommand, Attempted, ticking, with_end, AttemptStands, quietly, Client, ClientStep, StepsBy, StepsQuietly, sabm_of, Attempt, GoesWith, Party, with_newest, ClientDid, after_client_tick, after_event, beginning, called_again, did_by, has_call, job_gone_on, GoesOnWithTask, IsWork, Sound, ClientLaws, PartyAt, World}
 use Rattle.air_world.proofs.ClientBasics.{HasLink, goes-with, has-link, its-attempt}
 use Rattle.air_world.proofs.ClientBegun.{Begins, begun-made}
 use Rattle.air_world.proofs.ClientHeard.{did-of, its-stands}

@@ -3,7 +3,7 @@ use Rattle.std.proofs.Common.{◌≡◌, ℕ, List, [], Bool, true, false, Optio
 use Rattle.ftl0_server.specs.Connection.Hearing.{hearing}
 use Rattle.ftl0_server.specs.Entries as session
 use Rattle.air_world.specs.Sound as sound
-use Rattle.air_world.proofs.Names.{IfSome, MatchOption, AllByRecursion, IsCall, Transmission, is_call, Session, session_over, Connected, caller_of, SessionEntry, session_after, place_of, Attempt, IsAnswered, IsAttempt, IsEndOf, Calls, IsSeatedIn, IsServedBy, AreOver, OnlyNewestUp, Party, ServerSide, all-at, GrantedAt, GrantsOnce, IsServed, SessionGoes, SessionKeeps, Stands, session_gone, with_attempt, IsParty, Sound, SessionLaws, PartyAt, World}
+use Rattle.air_world.proofs.Names.{IfSome, MatchOption, AllByRecursion, IsCall, Transmission, is_call, Session, session_over, Connected, caller_of, SessionEntry, session_after, place_of, Attempt, IsAnswered, IsAttempt, IsEndOf, Calls, IsSeatedIn, IsServedBy, AreOver, OnlyNewestUp, Party, ServerSide, all-at, GrantedAt, GrantsOnce, IsServed, SessionGoes, SessionKeeps, Stands, session_gone, with_attempt, Sound, SessionLaws, PartyAt, World}
 use Rattle.air_world.proofs.Marked.{IsComing, delivers, from-client, marked}
 use Rattle.air_world.proofs.Seats.{between, calls}
 use Rattle.air_world.proofs.ServerTicked.{its-session}

@@ -1,5 +1,5 @@
 -- What a run did, where the words ask for a service.
-use Rattle.std.proofs.Common.{◌≡◌, ℕ, List, ap, sym, subst, ◌∙◌, inl, inr, true, false}
+use Rattle.std.proofs.Common.{◌≡◌, ℕ, List, ap, sym, subst, ◌∙◌, inl, inr, false}
 use Rattle.px_base.specs.declared.air.Air.{Ghosts as AirGhosts}
 use Rattle.pacsat_cli.specs.declared.status.Status.TheVariants as status
 use Rattle.pacsat_cli.proofs.Names.{Option, IfSome, Ghosts, standing_of, lent, seen, Fresh, Named, ServeRequest, Determined, OnlyOne, IsServe, Status, IsServedOver, RunsServe, WhereServed, serve_terms, AsksFresh, AsksStore, HasDiskCause, HasReadCause, HasStoreCause, HasWriteCause, IsDoneAtEnd, IsDoneBy, IsSpentBy, RefusesExactly}

@@ -3,7 +3,7 @@ use Rattle.std.proofs.Common.{◌≡◌, ℕ, ◌≤◌, List, refl, ap, sym, su
 use Rattle.px_base.specs.declared.air.Air.{Ghosts as AirGhosts}
 use Rattle.command_words.specs.Numbers.{IsNumberOr}
 use Rattle.pacsat_cli.specs.declared.status.Status.TheVariants as status
-use Rattle.pacsat_cli.proofs.Names.{Option, Some, None, IsSome, IfSome, Ghosts, standing_of, lent, seen, DiskWord, Fresh, Named, SessionRequest, Determined, OnlyOne, IsSession, Status, AsksDisk, AsksFresh, AsksMoment, AsksStore, HasDiskCause, HasReadCause, HasStoreCause, HasWriteCause, IsDoneAtEnd, IsDoneBy, IsSpentBy, OverNamed, RefusesExactly, RunsSession, WhereHeard, run_terms}
+use Rattle.pacsat_cli.proofs.Names.{Option, Some, None, IsSome, IfSome, Ghosts, standing_of, lent, seen, DiskWord, Fresh, Named, SessionRequest, Determined, OnlyOne, IsSession, Status, AsksDisk, AsksMoment, AsksStore, HasDiskCause, HasReadCause, HasStoreCause, HasWriteCause, IsDoneAtEnd, IsDoneBy, IsSpentBy, OverNamed, RefusesExactly, RunsSession, WhereHeard, run_terms}
 use Rattle.pacsat_cli.proofs.Ended.{heard-not_memory, mended-disk, mended-memory}
 use Rattle.pacsat_cli.proofs.NodeEnds.{Goes, OnDisk, is_early_status, is_node_status, node-complete, node-done, node-not, node-read, node-spent, node-write, on_disk-cause, on_disk-exact, on_disk-goes}
 

@@ -1,7 +1,7 @@
 -- Null devices that are held, opening by opening.
-use Rattle.std.proofs.Common.{◌≡◌, ◌⊎◌, inl, inr, ℕ, ◌+◌, ℤ, pos, List, [], ◌∷◌, ◌++◌, length, Option, None, Some, Result, Ok, Err, Bool, true, false, refl, sym, subst, arith, length-append}
+use Rattle.std.proofs.Common.{◌≡◌, ◌⊎◌, inl, inr, ℕ, ◌+◌, ℤ, List, [], ◌∷◌, ◌++◌, length, Result, Ok, Err, Bool, true, false, refl, sym, subst, arith, length-append}
 use Rattle.real_outside.specs.declared.descriptors.StandardStreams.{StandardStreams}
-use Rattle.real_outside.proofs.Names.{AreHeld, AreStandard, Has, HoldsLowest, HoldsOpened, IsHeld, IsStandard, KeepsHeld, SystemError}
+use Rattle.real_outside.proofs.Names.{AreHeld, AreStandard, HoldsLowest, HoldsOpened, IsHeld, IsStandard, KeepsHeld, SystemError}
 
 module _ {O : Type 0} (descriptor : O → ℤ) where
   -- those before are held still, and so is the next one

@@ -1,5 +1,5 @@
 -- What reaches the files by a call of a device over one of them.
-use Rattle.std.proofs.Common.{◌≡◌, inl, inr, ℕ, List, [], ◌∷◌, ◌++◌, Option, None, Some, Result, Ok, Err, refl, subst}
+use Rattle.std.proofs.Common.{◌≡◌, ℕ, List, ◌∷◌, ◌++◌, Option, None, Some, Result, Ok, Err, refl, subst}
 use Rattle.real_outside.specs.declared.disk.device.DeviceDown.{DeviceDown}
 use Rattle.real_outside.proofs.Names.{Asks, AfterOpening, FileDeviceState, TakesFile, FileCall, asks_as, asks_then}
 

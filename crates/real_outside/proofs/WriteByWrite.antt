@@ -1,7 +1,7 @@
 -- Octets that are written to a file, write by write.
 use Rattle.std.proofs.Common.{◌≡◌, inl, inr, ℕ, ◌+◌, ◌<◌, List, [], ◌∷◌, ◌++◌, length, drop, Result, Ok, Err, refl, sym, subst, append_assoc}
 use Rattle.real_outside.specs.declared.files.file_call.FileCall.TheVariants as call
-use Rattle.real_outside.proofs.Names.{append-nil, drop-drop, WritesOnce, WritesFrom, WritesSome, FileCall, SystemError}
+use Rattle.real_outside.proofs.Names.{append-nil, drop-drop, WritesFrom, WritesSome, FileCall, SystemError}
 
 -- whatever writes the octets that are left writes all of them behind these calls
 abbrev pub Leads : List ℕ → ℕ → ℕ → List FileCall → Type 0

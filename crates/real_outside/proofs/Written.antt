@@ -1,5 +1,5 @@
 -- What the calls that write octets come to.
-use Rattle.std.proofs.Common.{◌≡◌, inl, inr, ℕ, ◌+◌, ◌<◌, List, [], ◌∷◌, ◌++◌, length, take, drop, Bool, false, Option, None, Some, Ok, Err, refl, sym, ◌∙◌, ap, subst, arith, append_assoc}
+use Rattle.std.proofs.Common.{◌≡◌, inl, inr, ℕ, ◌+◌, ◌<◌, List, [], ◌∷◌, ◌++◌, length, take, drop, Bool, false, None, Some, refl, sym, ◌∙◌, ap, subst, arith, append_assoc}
 use Rattle.real_outside.specs.StreamCalls.{WritesSome}
 use Rattle.real_outside.specs.declared.stream.StreamCall.{StreamCall}
 use Rattle.real_outside.proofs.Names.{drop-drop, drop-take, drop_all, take-append-drop, take-take, Writes}

@@ -2,7 +2,6 @@
 use Rattle.std.specs.Prelude.{◌≡◌, ◌⊎◌, ℕ, ◌+◌, ℤ, pos, List, [], ◌∷◌, ◌++◌, length, take, get_or, map, nat_le}
 use Rattle.std.specs.Prelude.{if◌then◌else◌, Bool, true, false, Option, None, Some, MatchOption, Result, Ok, Err, ⊤}
 use Rattle.std.specs.declared.io.ErrorKind.TheVariants as reason
-use Rattle.px_base.specs.Outside.{Grows}
 use Rattle.real_outside.specs.declared.descriptors.StandardStreams.{StandardStreams}
 use Rattle.real_outside.specs.declared.system_error.SystemError.{SystemError}
 

@@ -1,5 +1,5 @@
 use Rattle.std.proofs.Common.{ℕ, Ok, subst}
-use Rattle.pacsat_cli.proofs.Names.{lent, seen, ClientTerms, FetchRan, client_terms, file_asked, outside}
+use Rattle.pacsat_cli.proofs.Names.{lent, seen, ClientTerms, FetchRan, file_asked, outside}
 use Rattle.pacsat_cli.proofs.clients.run_fetch.Goals as goal
 
 -- what a fetch came to, with the terms and the number that were asked for

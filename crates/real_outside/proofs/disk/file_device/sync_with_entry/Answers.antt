@@ -1,4 +1,4 @@
-use Rattle.std.proofs.Common.{Bool, List, ℕ, [], ◌∷◌, inr, Ok, refl, sym, subst}
+use Rattle.std.proofs.Common.{List, ℕ, [], ◌∷◌, inr, Ok, refl, subst}
 use Rattle.real_outside.specs.declared.files.file_call.FileCall.TheVariants as call
 use Rattle.real_outside.proofs.Names.{Grows, SyncsWithEntry, folder_of}
 use Rattle.real_outside.proofs.Asked.{asks_two}

@@ -1,4 +1,4 @@
-use Rattle.std.proofs.Common.{◌≡◌, inl, ℕ, List, ◌++◌, Option, None, Some, Err, sym, subst}
+use Rattle.std.proofs.Common.{◌≡◌, inl, ℕ, List, ◌++◌, Option, Err, sym, subst}
 use Rattle.real_outside.proofs.Names.{codes, OnLocked, Replaces, WritesNew, WritesOver, out_of_memory, asks_as}
 use Rattle.real_outside.proofs.Errors.{handed_on}
 use Rattle.real_outside.proofs.Kept.{none_replaced}

@@ -1,4 +1,4 @@
-use Rattle.std.proofs.Common.{◌≡◌, ℕ, List, [], ◌∷◌, length, Some, Result, refl, sym, ◌∙◌, ap}
+use Rattle.std.proofs.Common.{◌≡◌, ℕ, [], ◌∷◌, length, Some, Result, refl, sym, ◌∙◌, ap}
 use Rattle.real_outside.specs.Files.{octets_read}
 use Rattle.real_outside.specs.declared.files.file_call.FileCall.TheVariants as call
 use Rattle.real_outside.proofs.Names.{FileDeviceState, Reads, SystemError, asks_one}
