@@ -1,5 +1,5 @@
 -- What a shelf holds, and what its calls answer and change.
-use Rattle.std.specs.Prelude.{◌≡◌, ◌≢◌, ℕ, ◌≤◌, ◌⊎◌, List, length, nat_le, Bool, true, false, IsTrue, Option, None, Some, IfSome, MatchOption, Result, Ok, Err, IfOk, if◌then◌else◌}
+use Rattle.std.specs.Prelude.{◌≡◌, ◌≢◌, ℕ, ◌≤◌, ◌⊎◌, List, length, nat_le, Option, None, Some, IfSome, MatchOption, Result, Ok, Err, IfOk, if◌then◌else◌}
 use Rattle.std.specs.Map.{lookup}
 use Rattle.std.specs.Str.{bytes_eq}
 use Rattle.px_base.specs.declared.shelf.ShelfRefusal.{ShelfRefusal}

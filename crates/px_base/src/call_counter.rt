@@ -1,6 +1,6 @@
 //! How the calls of a form in memory are numbered.
 
-ghost use Rattle.std.specs.Prelude.{◌≡◌, ◌↔◌, [], false, true, Contains, IfOk, IsTrue};
+ghost use Rattle.std.specs.Prelude.{◌≡◌, ◌↔◌, [], false, true, IfOk, IsTrue};
 ghost use Rattle.px_base.specs.Counter.{IsListed, counter_after_call, new_counter};
 
 use crate::memory::OutOfMemory;

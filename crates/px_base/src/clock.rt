@@ -3,7 +3,7 @@
 ghost use Rattle.std.specs.Prelude.{ℕ, List, Option};
 ghost use Rattle.px_base.specs.Moments.{Gives};
 
-use crate::moment::Moment;
+use crate::Moment;
 
 /// What gives the moment. It can't fail, and may tell the moments that it gave; the form in memory does, the real one
 /// doesn't. Nothing says that moments rise.

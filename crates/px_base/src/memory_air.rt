@@ -1,6 +1,6 @@
 //! An air in memory: a script of turns to hear, and a record of what was heard and said.
 
-ghost use Rattle.std.specs.Prelude.{◌≡◌, ◌↔◌, [], ◌∷◌, ◌++◌, true, false, drop, Some, IfOk, IsErr, OnOk, OnErr, IsTrue};
+ghost use Rattle.std.specs.Prelude.{◌≡◌, [], ◌∷◌, ◌++◌, true, false, drop, Some, IfOk, IsErr, OnOk, OnErr, IsTrue};
 ghost use Rattle.std.specs.List.{AllByRecursion};
 ghost use Rattle.px_base.specs.Counter.{HasCauses};
 ghost use Rattle.px_base.specs.Forms.{IsPoll, IsSaying, has_fail, is_fail, new_air_state, next_turn as next_of, told_heard};

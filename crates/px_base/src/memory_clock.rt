@@ -4,9 +4,9 @@ ghost use Rattle.std.specs.Prelude.{◌≡◌, ◌≤◌, length, IfOk};
 ghost use Rattle.px_base.specs.Moments.{Gives, moment_after, told_given};
 ghost use Rattle.px_base.specs.Outside.{counted};
 
+use crate::Moment;
 use crate::clock::Clock;
 use crate::memory::OutOfMemory;
-use crate::moment::Moment;
 use std::alloc::Global;
 use std::marker::Model;
 
