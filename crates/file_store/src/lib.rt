@@ -21,9 +21,9 @@ mod reading;
 mod receipt;
 mod refusals;
 
-pub use file_entries::{Info, LAST_NEXT, LONGEST_FILE, MOST_ENTRIES, header_in};
 pub use file_journal::StoreFault;
 pub use file_store::FileStore;
+pub use file_store_model::{Info, LAST_NEXT, LONGEST_FILE, MOST_ENTRIES, header_in};
 pub use limits::Limits;
 pub use open_upload::OpenUpload;
 pub use receipt::Receipt;
