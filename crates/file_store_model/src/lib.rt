@@ -2,7 +2,7 @@
 //! whole file is checked by its header before it is sealed, and kept with the server's stamp (PFH 1990).
 //!
 //! The store is a list of entries (`specs/Store.antt`), and each change of it one of the commands of
-//! `specs/Command.antt`. How it stands in memory and on a disk is crate `block_entries`'.
+//! `specs/Command.antt`. How it stands in memory and on a disk is crate `file_store_blocks`'.
 #![tactic(auto)]
 
 mod begin_bar;

@@ -55,7 +55,7 @@ files-sound store is have = record {
       (λ number entry found. (have number entry found).octets);
 }
 
--- by the law of what follows, `follows_law` of `file_entries`
+-- by the law of what follows, `follows_law` of `file_store_model`
 pub sound-kept : (before now : Store) (commands : List Command) → FollowsLaw → IsSoundStore before → HaveCalls commands
     → AllByRecursion BringsOctets commands → DoesAll before now commands → IsSoundStore now
 sound-kept before now commands law sound calls brings does =
