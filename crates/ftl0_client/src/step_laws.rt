@@ -1,5 +1,6 @@
 //! Laws of a client's steps, over the definitions of `ftl0_client`: what is sent, what becomes of the job, and
 //! which commands of the notes are begun.
+
 ghost use Rattle.ftl0_client.specs.StepLaws.Steps.{StepLaw};
 ghost use Rattle.ftl0_client.specs.StepLaws.Stops.{FrontOfEventLaw};
 ghost use Rattle.ftl0_client.specs.Entries.{HearingLaw, TickingLaw};

@@ -1,4 +1,5 @@
 //! Laws of the rows of a session's table, and of what a server does at an event.
+
 ghost use Rattle.ftl0_server.specs.Entries.{HearingLaw};
 ghost use Rattle.ftl0_server.specs.StepLaws.Misses.{FrontOfEventLaw, MissesLaw};
 ghost use Rattle.ftl0_server.specs.StepLaws.Places.{StepLaw};

@@ -1,5 +1,6 @@
 //! Laws of what a session and a server acknowledge: each file of it stands on their disk, by what `session` and `serve`
 //! of `server_node` say of a run.
+
 ghost use Rattle.server_node.specs.Acknowledged.{ServerAcknowledgesLaw, SessionAcknowledgesLaw};
 ghost use Rattle.turn_loop.specs.Lent.{seen};
 
