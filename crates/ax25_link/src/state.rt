@@ -56,6 +56,7 @@ use ax25_frames::{Frame, Kind};
 ///   SABM, if it called; UA; UI        / -
 ///   T1, I frames are outstanding      / the oldest of them, P = 1
 ///   T1 or T3, none are outstanding    / RR, a command, P = 1
+///   octets are queued by push         / I, while fewer than k are outstanding, peer not busy
 /// ```
 ///
 /// The timer runs out at T1, 10 ticks, or in Up with nothing outstanding and no tries at T3, 60 ticks. At the 11th
