@@ -1,4 +1,44 @@
 //! One record: its text, putting it, and reading it.
+//!
+//! What a journal that was read to its end does to its disk, call by call, where p is the place of its next gate,
+//! which isn't open (the names of the states are those of this picture alone; `recover` also formats):
+//!
+//! ```text
+//!                                recover: sync, then reads
+//!                                           |
+//!                                           v
+//!   +-----------------------------------> QUIET <-----------------------------------------+
+//!   |                 a block             | | |          a record                         |
+//!   |         +---------------------------+ | +-----------------------+                   |
+//!   |         | write_at the block          | no room: write_at       | write_at p + 1    |
+//!   |         v                             v the other half          v                   |
+//!   |       BLOCK                         ANEW                     RECORD                 |
+//!   |         | sync                        | sync                    | sync              |
+//!   +---------+                             v                         v                   |
+//!   |                                    STAGED                     WHOLE                 |
+//!   |                                       | write_at 15             | write_at p        |
+//!   |                                       v                         v                   |
+//!   |                                   SELECTOR                    GATE                  |
+//!   |                                       | sync                    | sync              |
+//!   +---------------------------------------+                         +-------------------+
+//!
+//!   QUIET    -> BLOCK     Journal::put_block: the write of write_synced
+//!   BLOCK    -> QUIET     .. and its sync
+//!   QUIET    -> RECORD    put_record: the write of the first write_synced
+//!   RECORD   -> WHOLE     .. and its sync
+//!   WHOLE    -> GATE      put_record: the write of the second write_synced
+//!   GATE     -> QUIET     .. and its sync; p is the gate after the record from then on
+//!   QUIET    -> ANEW      stage_records: a write for each record, and one for the closed gate
+//!   ANEW     -> STAGED    .. and its sync
+//!   STAGED   -> SELECTOR  write_half: the write of write_synced
+//!   SELECTOR -> QUIET     .. and its sync; p is the gate after the records of the other half
+//! ```
+//!
+//! A call that fails leads nowhere: the journal has failed, nothing more is written, and only a recovery leads on. Up
+//! to WHOLE, p isn't 01, and a crash leaves the records before p. In GATE it leaves any octet at p, before a whole
+//! record and a closed gate: with 01 this record counts, with any other it doesn't. From there on it counts. In ANEW
+//! and STAGED a crash leaves the records before p; in SELECTOR any octet at 15, which says the half of these or the
+//! other half, and both stand for the same state.
 
 ghost use Rattle.std.specs.Prelude.{◌≡◌, ◌+◌, ◌^◌, ◌<◌, ◌≤◌, [], length, take, IfOk, IfSome, OnOk, IsErrOf, None};
 ghost use Rattle.file_journal.specs.Appending.{IsPutting, OpensGate};

@@ -45,6 +45,44 @@ const MOST_TOKENS: usize = 2047;
 type Replies = ArrayVec<u8, 32>;
 
 /// What a session does beside uploading.
+///
+/// A line of the picture is a packet, then `/` and the reply, `-` for none; what has no `/` is what
+/// [`Downloads::fill`] sends. The rows are in specs/Downloads/Table.antt, what is sent in
+/// specs/Downloads/Sending.antt. Any other packet has no row here, and changes nothing.
+///
+/// ```text
+/// +---------+  DOWNLOAD_CMD           / -                                    +-------------------+
+/// | Ready   |--------------------------------------------------------------->| Sending           |
+/// |         |                                                                | sends DATA        |
+/// |         |  DL_NAK_CMD             / DL_ABORTED_RESP                      |                   |
+/// |         |  a read fails           sends DL_ERROR_RESP 3                  |                   |
+/// |         |<---------------------------------------------------------------|                   |
+/// |         |                                                                +-------------------+
+/// |         |                                          no octets are left:    |
+/// |         |                                          sends DATA_END         v
+/// |         |                                                                +-------------------+
+/// |         |  DL_ACK_CMD             / DL_COMPLETED_RESP                    | Waiting           |
+/// |         |  DL_NAK_CMD             / DL_ABORTED_RESP                      |                   |
+/// |         |<---------------------------------------------------------------|                   |
+/// |         |                                                                +-------------------+
+/// |         |  DIR_SHORT_CMD          / -                                    +-------------------+
+/// |         |--------------------------------------------------------------->| ListingShort      |
+/// |         |  no octets are left     sends DATA_END                         | sends DATA        |
+/// |         |<---------------------------------------------------------------|                   |
+/// |         |                                                                +-------------------+
+/// |         |  DIR_LONG_CMD           / -                                    +-------------------+
+/// |         |--------------------------------------------------------------->| ListingLong       |
+/// |         |  no octets are left     sends DATA_END                         | sends DATA        |
+/// |         |  a read fails           sends DL_ERROR_RESP 3                  |                   |
+/// |         |<---------------------------------------------------------------|                   |
+/// +---------+                                                                +-------------------+
+///
+/// In Ready, which stays:
+///   DOWNLOAD_CMD, refused                    / DL_ERROR_RESP 10, 11, 4, 2
+///   DIR_SHORT_CMD, DIR_LONG_CMD, refused     / DL_ERROR_RESP 11, 4; 3 if a read fails
+///   SELECT_CMD                               / SELECT_RESP count
+///   SELECT_CMD, refused                      / DL_ERROR_RESP 8; 3 if a read fails
+/// ```
 #[derive(Clone, Copy)]
 enum Phase {
     /// It is ready for a command.
