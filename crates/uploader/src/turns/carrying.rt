@@ -18,9 +18,9 @@ use std::alloc::Global;
 use turn_loop::laws::one_run_law;
 use turn_loop::{Finished, NodeStop, TurnTerms, drive};
 
-/// Asks the client for a job, as [`Client::ask`] does, and takes turns, as [`turn_loop::drive`] does, until the client is
-/// closed, or as many polls were made as may be; gives the client back. Its SABM is put before the first turn. What a
-/// frame notes is on the disk before any of its frames is put. Takes memory.
+/// Asks the client for a job, as [`Client::ask`] does, and takes turns, as [`turn_loop::drive`] does, until the client
+/// is closed, or as many polls were made as may be; gives the client back. Its SABM is put before the first turn. What
+/// a frame notes is on the disk before any of its frames is put. Takes memory.
 ///
 /// The answer is what became of the job, as soon as anything did: a poll or a put that fails then, the end of the air
 /// and the last poll end the turns as the closing does. What a command doesn't ask for is a stop. `AirRead` comes only
