@@ -3,7 +3,7 @@ use Rattle.std.proofs.Common.{◌≡◌, inl, inr, ℕ, ◌+◌, ◌≤◌, List
 use Rattle.disk_model.specs.declared.disk_call.DiskCall.TheVariants as call
 use Rattle.disk_model.specs.declared.fuse_disk.FuseStage.{FuseStage}
 use Rattle.disk_model.specs.declared.fuse_disk.FuseStage.TheVariants as stage
-use Rattle.disk_model.proofs.Names.{common_steps, DiskState, IsFailingSync, IsPowerCut, IsSyncing, IsTearing, IsWriting, content_of, images_of, images_since_of, moment_of, surface, with_starved, Arming, Failed, LastsSo, Passes, Unarmed, UsesUp, Only, Rose, cases_Bool, FuseState, IsTornNext, arming_in, cut_of, SamePast, ImagesSince, IsImage, Surface, left_by, moments_in, quiet_surface, surface_after, DiskCall}
+use Rattle.disk_model.proofs.Names.{common_steps, DiskState, IsFailingSync, IsPowerCut, IsSyncing, IsTearing, IsWriting, content_of, images_of, images_since_of, moment_of, surface, with_starved, IsCrash, Arming, Failed, LastsSo, Passes, Unarmed, UsesUp, Only, Rose, cases_Bool, FuseState, IsTornNext, arming_in, cut_of, SamePast, ImagesSince, IsImage, Surface, left_by, moments_in, quiet_surface, surface_after, DiskCall}
 use Rattle.disk_model.proofs.Ranges.{cut_surface}
 use Rattle.disk_model.proofs.Steps.{cut_keeps_past, moments_in-push}
 use Rattle.disk_model.proofs.Surfaces.{quiet_leaves_only, surface_after-push}
@@ -147,24 +147,23 @@ fails_lasts before now torn failed reads no_fewer rose fails = record {
     by stage.Blown is memory = tt
     by stage.Down never memory = absurd never
 
--- what a power cut leaves of a disk that has memory
-
--- what a power cut leaves of a disk that has memory
-pub record CutLeft (before now : DiskState) : Type 0 where
+-- what a power cut by this number leaves of a disk that has memory
+pub record CutLeft (before now : DiskState) (pick : ℕ) : Type 0 where
   pub image : images_of before (content_of now)
   pub only : Only (images_of now) (content_of now)
+  pub picked : IsCrash (surface before) pick (content_of now)
   pub up : now.down ≡ false
 
-pub record CutKeeps (before now : DiskState) : Type 0 where
+pub record CutKeeps (before now : DiskState) (pick : ℕ) : Type 0 where
   pub moment : moment_of now ≡ moment_of before
   pub reads : now.read_faults ≡ before.read_faults
   pub writes : now.write_faults ≡ before.write_faults
   pub failing : now.counter.failing ≡ before.counter.failing
   pub starved : before.counter.starved ≡ true → now.counter.starved ≡ true
   pub past : SamePast (images_since_of before) (images_since_of now)
-  pub left : now.counter.starved ≡ false → CutLeft before now
+  pub left : now.counter.starved ≡ false → CutLeft before now pick
 
-pub cut_keeps : (before now : DiskState) (pick : ℕ) → IsPowerCut before now pick → CutKeeps before now
+pub cut_keeps : (before now : DiskState) (pick : ℕ) → IsPowerCut before now pick → CutKeeps before now pick
 cut_keeps before now pick (inl ((inside, behind, pushed, crash), is)) = record {
   moment = ap moments_in pushed ∙ moments_in-push before.calls done ∙ omega arith;
   reads = ap (λ (s : DiskState). s.read_faults) is;
@@ -178,6 +177,7 @@ cut_keeps before now pick (inl ((inside, behind, pushed, crash), is)) = record {
   left = λ memory. record {
     image = subst (images_of before) (sym content) crash.left;
     only = subst (λ (s : Surface). Only (IsImage s) s.content) (sym surface_is) (quiet_leaves_only left);
+    picked = subst (IsCrash (surface before) pick) (sym content) crash;
     up = ap (λ (s : DiskState). s.down) is;
   };
 }

@@ -3,8 +3,10 @@ use Rattle.std.specs.Prelude.{◌≡◌, ◌↔◌, ◌⊎◌, ℕ, ◌+◌, ◌
 use Rattle.std.specs.Prelude.{None, IfSome, Bool, true, false}
 use Rattle.std.specs.Option.{option_map}
 use Rattle.px_base.specs.Outside.{Rose}
+use Rattle.disk_model.specs.Crash.{IsCrash}
 use Rattle.disk_model.specs.Disk.{IsQuiet, IsTold}
 use Rattle.disk_model.specs.Moments.{ChangesNothing, SamePast}
+use Rattle.disk_model.specs.Surface.{IsImage, Surface}
 use Rattle.disk_model.specs.declared.disk.Disk.{Ghosts}
 
 -- It isn't armed; or so many further calls of `write_at` and `sync` pass; or a call failed by the arming.
@@ -82,6 +84,15 @@ pub record LastsSo (old new : CutState) : Type 0 where
   pub reads : old.use_of.read_faults ≤ new.use_of.read_faults
   pub writes : old.use_of.write_faults ≤ new.use_of.write_faults
   pub uses : old.plain → new.starved ≡ false → UsesUp old.use_of.arming old.use_of new.use_of
+
+-- What a read gives is the content of what stands on the disk, and what a crash may leave are its images.
+pub record ShowsWhatStands {D : Type 0} (g : Ghosts D) (surface : D → Surface) (disk : D) : Type 0 where
+  pub content : g.content disk ≡ Some (surface disk).content
+  pub images : (image : List ℕ) → g.images disk image ↔ IsImage (surface disk) image
+
+-- what a read gives now, where it is told, is what a power cut by this number picks of what stood on the disk
+abbrev pub Picks : {D : Type 0} → Ghosts D → (D → Surface) → ℕ → D → D → Type 0
+Picks g surface pick old new = IfSome (g.content new) (IsCrash (surface old) pick)
 
 module _ {D : Type 0} (g : Ghosts D) (cuts : Cuts D) where
   abbrev pub cut_state : D → CutState

@@ -3,9 +3,10 @@ use Rattle.std.specs.Prelude.{◌≡◌, ◌⊎◌, ℕ, ◌+◌, ◌^◌, ◌<�
 use Rattle.std.specs.Prelude.{Result, IsErr}
 use Rattle.px_base.specs.Outside.{Rose, counted}
 use Rattle.disk_model.specs.Calls.{DiskState, IsFailingSync, IsReading, IsSyncing, IsTearing, IsWriting, content_of}
-use Rattle.disk_model.specs.Calls.{images_of, images_since_of, moment_of, with_starved}
+use Rattle.disk_model.specs.Calls.{images_of, images_since_of, moment_of, surface, with_starved}
 use Rattle.disk_model.specs.Cuts.{Arming, CutState, Failed, LastsSo, Passes, Unarmed}
 use Rattle.disk_model.specs.Memory.{state}
+use Rattle.disk_model.specs.Surface.{Surface}
 use Rattle.disk_model.specs.declared.disk.Disk.{Ghosts}
 use Rattle.disk_model.specs.declared.fuse_disk.FuseDisk.{FuseDisk}
 use Rattle.disk_model.specs.declared.fuse_disk.FuseStage.{FuseStage}
@@ -56,6 +57,10 @@ write_faults disk = (fuse disk).disk.write_faults + (fuse disk).write_faults
 
 abbrev pub is_down : FuseDisk → Type 0
 is_down disk = ((fuse disk).stage ≡ stage.Down) ⊎ ((fuse disk).disk.down ≡ true)
+
+-- what stands on it
+abbrev pub standing : FuseDisk → Surface
+standing disk = surface (fuse disk).disk
 
 -- how it is armed
 abbrev pub arming_in : FuseStage → Arming

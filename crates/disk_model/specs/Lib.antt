@@ -10,6 +10,7 @@ pub mod Log
 pub mod Memory
 pub mod MemoryLaws
 pub mod Moments
+pub mod OctetsDisk
 pub mod Open
 pub mod Promised
 pub mod Runs

@@ -221,6 +221,7 @@ impl Disk for FuseDisk {
 }
 
 impl CutDisk for FuseDisk {
+    ghost use Rattle.std.specs.Prelude.{refl};
     ghost use Rattle.disk_model.specs.Fuse as it;
 
     ghost restarts = { it.restarts };
@@ -230,6 +231,8 @@ impl CutDisk for FuseDisk {
     ghost plain = { it.plain };
 
     ghost is_starved = { it.is_starved };
+
+    ghost surface = { it.standing };
 
     /// Arms it, or takes the arming away. It takes no memory.
     fn arm(&mut self, calls: Option<u64>) {
@@ -249,6 +252,8 @@ impl CutDisk for FuseDisk {
     fn starved(&self) -> bool {
         self.disk.starved()
     }
+
+    ghost shows = { λ disk. record { content = refl; images = λ image. (λ left. left, λ left. left) } };
 
     ghost lasts_so = { λ old new lasts. lasts };
 }

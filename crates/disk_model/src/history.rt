@@ -1,6 +1,6 @@
 //! What was done to a disk in memory since it was made, and what stands on it.
 
-ghost use Rattle.std.specs.Prelude.{◌≡◌, ◌+◌, ◌<◌, ◌≤◌, ◌^◌, ℕ, List, [], ◌∷◌, ◌++◌, length, vec_capacity};
+ghost use Rattle.std.specs.Prelude.{◌≡◌, ◌+◌, ◌<◌, ◌≤◌, ◌^◌, [], ◌∷◌, ◌++◌, length, vec_capacity};
 ghost use Rattle.std.specs.Prelude.{vec_len, false, true, IfOk, MatchResult, OnOk, OnErr};
 ghost use Rattle.disk_model.specs.Calls.{LosesWrite, RecordsCut};
 ghost use Rattle.disk_model.specs.Surface.{IsImage, surface_after, sync_of, write_of};

@@ -61,7 +61,7 @@ pub struct LogDisk {
 
 impl LogDisk {
     ghost use Rattle.disk_model.specs.Fuse.{fuse};
-    ghost use Rattle.disk_model.specs.Log.{LogState, log};
+    ghost use Rattle.disk_model.specs.Log.{log};
 
     /// This disk, which has lost no power yet. It keeps the allocator, and takes no memory yet.
     pub fn new(alloc: Global, disk: FuseDisk) -> LogDisk
@@ -142,7 +142,7 @@ impl Disk for LogDisk {
 }
 
 impl CutDisk for LogDisk {
-    ghost use Rattle.std.specs.Prelude.{Some};
+    ghost use Rattle.std.specs.Prelude.{Some, refl};
     ghost use Rattle.disk_model.specs.Fuse as it;
 
     ghost restarts = { λ l. Some l.restarts };
@@ -152,6 +152,8 @@ impl CutDisk for LogDisk {
     ghost plain = { λ l. it.plain l.disk };
 
     ghost is_starved = { λ l. it.is_starved l.disk };
+
+    ghost surface = { λ l. it.standing l.disk };
 
     fn arm(&mut self, calls: Option<u64>) {
         self.disk.arm(calls);
@@ -171,6 +173,8 @@ impl CutDisk for LogDisk {
     fn starved(&self) -> bool {
         self.disk.starved()
     }
+
+    ghost shows = { λ l. record { content = refl; images = λ image. (λ left. left, λ left. left) } };
 
     ghost lasts_so = { λ old new lasts. lasts };
 }

@@ -15,6 +15,10 @@ returns-clause-left c = λ memory.
       restarted = refl;
     }
 
+pub returns-clause-picked : goal.returns-clause-picked
+returns-clause-picked c = λ memory.
+    ((cut_keeps (state c.args.self.now.disk) (state c.power_cut.new.self) c.args.pick c.power_cut.ensures).left memory).picked
+
 pub returns-clause-stays : goal.returns-clause-stays
 returns-clause-stays c =
     let here = cut_keeps (state c.args.self.now.disk) (state c.power_cut.new.self) c.args.pick c.power_cut.ensures in
