@@ -10,6 +10,7 @@ mod JournalLemmas
 mod HoldLemmas
 mod KeptLemmas
 mod LayoutLemmas
+mod LookingLemmas
 mod Names
 mod OctetLemmas
 pub mod Offered

@@ -12,6 +12,7 @@ pub mod Laws
 pub mod Layout
 pub mod Ledger
 pub mod Finding
+pub mod Looking
 pub mod Next
 pub mod Position
 pub mod Putting

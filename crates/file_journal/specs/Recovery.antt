@@ -96,3 +96,15 @@ abbrev pub LeavesSinceSync :
 LeavesSinceSync g result old new stands =
     IfSome (g.content old) (λ before.
     IsSyncedFirst g old new (stands before) ⊎ (IsErrOf result fault.Disk × IsFailedSync g old new))
+
+-- A recovery makes seven writes and syncs at most, and one, its first sync, where the content is a formatted store or is
+-- refused.
+pub record RecoversInCalls {D : Type 0} (g : Ghosts D) (magic : List ℕ) (layout : Layout) (blocks : ℕ) (old new : D)
+    : Type 0 where
+  pub most : g.moment new ≤ g.moment old + 7
+  pub formatted :
+      IfSome (g.content old) (λ before.
+      gate_in layout blocks before + 2 ≤ length before → g.moment new ≤ g.moment old + 1)
+  pub refused :
+      IfSome (g.content old) (λ before.
+      ¬ HasGoodHeader (journal_of magic layout before) → g.moment new ≤ g.moment old + 1)

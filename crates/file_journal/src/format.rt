@@ -27,33 +27,27 @@ pub(crate) fn format_new<D: Disk>(
     requires quiet { IsQuietNow D.Disk disk.old }
     requires short { IfSome (D.content disk.old) (λ octets. length octets ≤ 16) }
     requires blocks { AreBlocks blocks }
-    ensures { Makes D.Disk result disk.old disk.new
+    ensures makes { Makes D.Disk result disk.old disk.new
         (IsAfterRecovery magic layout blocks) (IsRecovering magic layout blocks) }
+    ensures calls { D.moment disk.new ≤ D.moment disk.old + 6 }
 {
     // A crash before this is synced leaves at most 16 octets, whatever they are: the formatting begins anew.
     write_synced(disk, 0, encode_header(magic, blocks).as_slice())?;
     format_gates(disk, layout.first_gate(blocks))
 }
 
-/// Formats a disk of more than 16 octets to its end, if its formatting was interrupted: no octet stands behind its
-/// first gate then, whose place this is.
-pub(crate) fn finish_format<D: Disk>(
-    disk: &mut D,
-    len: u64,
-    gate: u64,
-    selector: u8,
-) -> Result<(), DiskFault>
+/// Formats a disk of more than 16 octets to its end, whose formatting was interrupted: no octet stands behind its first
+/// gate, whose place this is.
+pub(crate) fn finish_format<D: Disk>(disk: &mut D, gate: u64, selector: u8) -> Result<(), DiskFault>
     requires quiet { IsQuietNow D.Disk disk.old }
     requires long { IfSome (D.content disk.old) (λ octets. 16 < length octets) }
-    requires len { IfSome (D.content disk.old) (λ octets. len ≡ length octets) }
+    requires short { IfSome (D.content disk.old) (λ octets. length octets < gate + 2) }
     requires selector { HasSelector (D.content disk.old) selector }
     requires behind { 16 ≤ gate }
     requires fits { gate < 2 ^ 26 }
-    ensures { Makes D.Disk result disk.old disk.new (IsAfterFinishing gate) (IsFinishing gate) }
+    ensures makes { Makes D.Disk result disk.old disk.new (IsAfterFinishing gate) (IsFinishing gate) }
+    ensures calls { D.moment disk.new ≤ D.moment disk.old + 6 }
 {
-    if len >= gate + 2 {
-        return Ok(());
-    }
     make_selector_even(disk, selector)?;
     format_gates(disk, gate)
 }
@@ -76,7 +70,8 @@ fn make_selector_even<D: Disk>(disk: &mut D, selector: u8) -> Result<(), DiskFau
     requires quiet { IsQuietNow D.Disk disk.old }
     requires long { IfSome (D.content disk.old) (λ octets. 16 ≤ length octets) }
     requires selector { HasSelector (D.content disk.old) selector }
-    ensures { Makes D.Disk result disk.old disk.new MakesEven IsMakingEven }
+    ensures makes { Makes D.Disk result disk.old disk.new MakesEven IsMakingEven }
+    ensures calls { D.moment disk.new ≤ D.moment disk.old + 2 }
 {
     if selector % 2 == 0 {
         return Ok(());
@@ -95,7 +90,8 @@ fn format_gates<D: Disk>(disk: &mut D, gate: u64) -> Result<(), DiskFault>
     requires short { IfSome (D.content disk.old) (λ octets. length octets ≤ gate + 1) }
     requires behind { 16 ≤ gate }
     requires fits { gate < 2 ^ 26 }
-    ensures { Makes D.Disk result disk.old disk.new (MakesGates gate) (IsMakingGates gate) }
+    ensures makes { Makes D.Disk result disk.old disk.new (MakesGates gate) (IsMakingGates gate) }
+    ensures calls { D.moment disk.new ≤ D.moment disk.old + 4 }
 {
     // A crash before this is synced leaves no octet behind the gate, and no record is read, whatever is before it.
     write_synced(disk, gate, &[0])?;

@@ -8,11 +8,13 @@ ghost use Rattle.file_journal.specs.Blocks.{MayWriteBlock, WritesBlock};
 ghost use Rattle.file_journal.specs.Bounds.{RecoversInHalves, StaysInHalves};
 ghost use Rattle.disk_model.specs.Runs.{IsQuietNow, Leaves, Puts, Reads, Runs, TakesStep};
 ghost use Rattle.file_journal.specs.Header.{AreBlocks};
+ghost use Rattle.file_journal.specs.Looking.{IsFound};
 ghost use Rattle.file_journal.specs.Layout.{block_in, half_end, half_gate, half_size, other_half};
 ghost use Rattle.file_journal.specs.Next.{AnswersNext, IsReadable};
 ghost use Rattle.file_journal.specs.Position.{HasRoom, MovesOn, StandsOn, end_of, position_at_first, readable, room_in};
 ghost use Rattle.file_journal.specs.Records.{IsRecord, record_of, record_text};
-ghost use Rattle.file_journal.specs.Recovery.{IsRecovered, IsRecovering, LeavesSinceSync, Refuses};
+ghost use Rattle.file_journal.specs.Recovery.{IsRecovered, IsRecovering, LeavesSinceSync, RecoversInCalls, Refuses};
+ghost use Rattle.file_journal.specs.Looking.{SettlesInCalls};
 
 use crate::content::{RecordContent, close_text};
 use crate::format::{finish_format, format_new};
@@ -20,7 +22,7 @@ use crate::header::read_header;
 use crate::layout::{HEADER, Half, block_place};
 use crate::record::{RecordRoom, put_record, read_record};
 use crate::write::write_synced;
-use crate::{JournalFault, Layout, RecoverFault};
+use crate::{Found, JournalFault, Layout, Owed, RecoverFault};
 use arrayvec::ArrayVec;
 use disk_model::{Disk, DiskFault};
 use std::marker::Model;
@@ -65,7 +67,8 @@ impl Model for Journal {
 
 impl Journal {
     /// Recovers the journal of this magic and layout from whatever a crash, a fault or a killed program left on the
-    /// disk, and stands at its first gate. It syncs before it reads. A disk of at most 16 octets is formatted with the
+    /// disk, and stands at its first gate. It syncs before it reads, and makes no other write or sync on a formatted
+    /// store; six more at most, where the formatting is to be done. A disk of at most 16 octets is formatted with the
     /// block number `blocks`, 1 to 65,536; one whose formatting was interrupted is formatted to its end. It may be cut
     /// at any of its writes and syncs, and is then done again.
     ///
@@ -95,46 +98,87 @@ impl Journal {
 
         // In two halves nothing is written behind the store whose block number it has, or gets.
         ensures within { RecoversInHalves D.Disk layout blocks disk.old disk.new }
+        ensures calls { RecoversInCalls D.Disk magic layout blocks disk.old disk.new }
     {
         // A crash before this sync leaves any octets where an earlier write wasn't synced, whatever a read gives; after
         // it, what is read. Where it fails, nothing is read, and it isn't tried again.
         disk.sync()?;
-        let len = disk.len()?;
-        Journal::recover_synced(disk, len, magic, blocks, layout)
+        let found = Journal::look(disk, magic, blocks, layout)?;
+        let journal = Journal::settle(found, disk, magic, blocks, layout)?;
+        Ok(journal)
     }
 
-    /// Recovers the journal from a quiet disk of `len` octets.
-    fn recover_synced<D: Disk>(
+    /// Looks what a disk holds of a journal of this magic and layout, by reads alone: the journal at its first gate,
+    /// and what is owed to the formatting of its store. A disk of at most 16 octets is found as a store that isn't
+    /// formatted yet, and gets the block number `blocks`, 1 to 65,536. Where nothing is owed, and the disk is quiet,
+    /// the records can be read; a recovery does first what is owed. Takes no memory.
+    ///
+    /// `NotAStore` and `Damaged` come exactly where the content stands for them; `Disk`: a read failed.
+    pub fn look<D: Disk>(
         disk: &mut D,
-        len: u64,
         magic: [u8; 8],
         blocks: u32,
         layout: Layout,
-    ) -> Result<Journal, RecoverFault>
-        requires len { IfSome (D.content disk.old) (λ octets. len ≡ length octets) }
-        requires quiet { IsQuietNow D.Disk disk.old }
+    ) -> Result<Found, RecoverFault>
         requires blocks { AreBlocks blocks }
-        ensures recovered { IfOk result (IsRecovered D.Disk magic layout blocks disk.old disk.new) }
+        ensures found { IfOk result (IsFound D.Disk magic layout blocks disk.new) }
         ensures refuses { Refuses magic layout (D.content disk.old) result }
-        ensures untouched { OnErr result
-            (¬ IsErrOf result RecoverFault.Disk → D.content disk.new ≡ D.content disk.old) }
-        ensures runs { Runs D.Disk (IsErrOf result RecoverFault.Disk) disk.old disk.new }
-        ensures since { Leaves D.Disk disk.old disk.new (IsRecovering magic layout blocks) }
+        ensures reads { Reads D.Disk (IsErrOf result RecoverFault.Disk) disk.old disk.new }
     {
+        let len = disk.len()?;
         if len <= HEADER {
-            format_new(disk, magic, blocks, layout)?;
-            return Ok(Journal::at_first_gate(magic, layout, blocks, Half::First));
+            return Ok(Found {
+                journal: Journal::at_first_gate(magic, layout, blocks, Half::First),
+                owed: Owed::Formatting,
+            });
         }
         let header = read_header(disk, magic)?;
         let gate = layout.first_gate(header.blocks);
-        finish_format(disk, len, gate, header.selector)?;
-        // Behind an interrupted formatting the selector is even.
-        let half = if len < gate + 2 {
-            Half::First
-        } else {
-            layout.half(header.selector)
-        };
-        Ok(Journal::at_first_gate(magic, layout, header.blocks, half))
+        if len < gate + 2 {
+            // Behind an interrupted formatting the selector is made even.
+            return Ok(Found {
+                journal: Journal::at_first_gate(magic, layout, header.blocks, Half::First),
+                owed: Owed::Gates(header.selector),
+            });
+        }
+        let half = layout.half(header.selector);
+        Ok(Found {
+            journal: Journal::at_first_gate(magic, layout, header.blocks, half),
+            owed: Owed::Nothing,
+        })
+    }
+
+    /// Does what a look at a disk found to be owed to the formatting of a store of this magic and layout, on that disk,
+    /// which is quiet; a new store gets the block number `blocks`. The journal, of which nothing is read yet. It may be
+    /// cut at any of its writes and syncs, and the recovery is then done again.
+    fn settle<D: Disk>(
+        found: Found,
+        disk: &mut D,
+        magic: [u8; 8],
+        blocks: u32,
+        layout: Layout,
+    ) -> Result<Journal, DiskFault>
+        requires blocks { AreBlocks blocks }
+        requires quiet { IsQuietNow D.Disk disk.old }
+        requires found { IsFound D.Disk magic layout blocks disk.old found }
+        ensures recovered { IfOk result (IsRecovered D.Disk magic layout blocks disk.old disk.new) }
+        ensures puts { Puts D.Disk (IsErr result) disk.old disk.new }
+        ensures since { Leaves D.Disk disk.old disk.new (IsRecovering magic layout blocks) }
+        ensures calls { SettlesInCalls D.Disk found.owed disk.old disk.new }
+    {
+        let Found { journal, owed } = found;
+        match owed {
+            Owed::Nothing => Ok(journal),
+            Owed::Formatting => {
+                format_new(disk, magic, blocks, layout)?;
+                Ok(journal)
+            }
+            Owed::Gates(selector) => {
+                let gate = layout.first_gate(journal.blocks);
+                finish_format(disk, gate, selector)?;
+                Ok(journal)
+            }
+        }
     }
 
     /// At the first gate of this half, with nothing read yet.

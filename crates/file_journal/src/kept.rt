@@ -12,6 +12,7 @@ ghost use Rattle.file_journal.specs.Layout.{HasBlocks, HoldSame, block_in, block
 ghost use Rattle.file_journal.specs.Position.{HasRoom, MovesOn};
 ghost use Rattle.file_journal.specs.Putting.{GoesOn, MakesRoom, StaysKept, TurnsInto};
 ghost use Rattle.file_journal.specs.Records.{record_of};
+ghost use Rattle.file_journal.specs.Recovery.{RecoversInCalls};
 ghost use Rattle.file_journal.specs.Restoring.{AnswersRecovery, IsRestored};
 ghost use Rattle.file_journal.specs.Rewriting.{WritesAnew};
 ghost use Rattle.file_journal.specs.Steps.{HasPut, Knows, WritesTurn, block_calls, kept_by};
@@ -33,7 +34,8 @@ pub struct Kept<L> {
 
 impl<L: Ledger> Kept<L> {
     /// Recovers the state from whatever a crash, a fault or a killed program left on the disk: the one that its content
-    /// stands for. It syncs before it reads. A disk of at most 16 octets is formatted with the block number `blocks`, 1
+    /// stands for. It syncs before it reads, and makes no other write or sync on a formatted store; six more at most,
+    /// where the formatting is to be done. A disk of at most 16 octets is formatted with the block number `blocks`, 1
     /// to 65,536; one whose formatting was interrupted is formatted to its end. It may be cut at any of its writes and
     /// syncs, and is then done again. The work is that of the records. Takes memory.
     ///
@@ -47,6 +49,7 @@ impl<L: Ledger> Kept<L> {
             StandsAt D.Disk L.form L.steps kept.journal (kept_by L.steps L.state kept.ledger) disk.new) }
         ensures by_records { IfOk result (λ kept. L.by_records kept.ledger) }
         ensures answers { AnswersRecovery D.Disk L.form blocks result disk.old disk.new }
+        ensures calls { RecoversInCalls D.Disk L.form.magic L.form.layout blocks disk.old disk.new }
     {
         let mut journal = Journal::recover(disk, L::magic(), blocks, L::layout())?;
         let mut ledger = L::fresh(alloc, journal.blocks())?;

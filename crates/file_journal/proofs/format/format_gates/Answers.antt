@@ -3,8 +3,8 @@ use Rattle.file_journal.proofs.Names.{IsMakingGates, MakesGates, makes_failed, m
 use Rattle.file_journal.proofs.FormatLemmas.{first_gate_crash, gates_by, second_gate_crash, torn_quiet}
 use Rattle.file_journal.proofs.format.format_gates.Goals as goal
 
-pub returns-in_err-write_synced : goal.returns-in_err-write_synced
-returns-in_err-write_synced g c =
+pub returns-in_err-write_synced-clause-makes : goal.returns-in_err-write_synced-clause-makes
+returns-in_err-write_synced-clause-makes g c =
     let D = g.D.Disk in
     let old = c.args.disk.now in
     makes_failed D c.write_synced.result c.from_residual.result old c.write_synced.new.disk _ _ (MakesGates c.args.gate) (IsMakingGates c.args.gate) (search rules)
@@ -12,8 +12,8 @@ returns-in_err-write_synced g c =
     first_gate_crash c.args.gate before c.requires.behind (at_told _ before told c.requires.long) (at_told _ before told c.requires.short) image (torn_quiet D old (g.met.D.Disk.counts_now old) c.requires.quiet c.args.gate 1 before told image torn))
     c.write_synced.ensures.makes (search rules)
 
-pub returns : goal.returns
-returns g c =
+pub returns-clause-makes : goal.returns-clause-makes
+returns-clause-makes g c =
     let D = g.D.Disk in
     let old = c.args.disk.now in
     let mid = c.write_synced.new.disk in

@@ -5,8 +5,8 @@ use Rattle.file_journal.proofs.JournalLemmas.{header_length}
 use Rattle.file_journal.proofs.RecoverLemmas.{new_after, recovering_gates, recovering_short}
 use Rattle.file_journal.proofs.format.format_new.Goals as goal
 
-pub returns-in_err-write_synced : goal.returns-in_err-write_synced
-returns-in_err-write_synced g c =
+pub returns-in_err-write_synced-clause-makes : goal.returns-in_err-write_synced-clause-makes
+returns-in_err-write_synced-clause-makes g c =
     let D = g.D.Disk in
     let old = c.args.disk.now in
     let eight : length c.args.magic ≡ 8 = search rules in
@@ -17,8 +17,8 @@ returns-in_err-write_synced g c =
     recovering_short c.args.magic c.args.layout c.args.blocks before short image (omega (arith, left.no_longer, ap length (c.as_slice.ensures.value ∙ c.encode_header.ensures) ∙ header_length c.args.magic c.args.blocks eight, short)))
     c.write_synced.ensures.makes (search rules)
 
-pub returns : goal.returns
-returns g c =
+pub returns-clause-makes : goal.returns-clause-makes
+returns-clause-makes g c =
     let D = g.D.Disk in
     let old = c.args.disk.now in
     let eight : length c.args.magic ≡ 8 = search rules in
@@ -29,7 +29,7 @@ returns g c =
     let header : (before middle : List ℕ) → length before ≤ 16 → Writes 0 c.as_slice.result.now before middle → middle ≡ header_text c.args.magic c.args.blocks =
     λ before middle short put. all_by c.as_slice.result.now before middle (omega (arith, size, short)) put ∙ text in
     makes_on D g.met.D.Disk.lasts_on _ c.format_gates.result old c.write_synced.new.disk c.format_gates.new.disk _ _ _ _ (IsAfterRecovery c.args.magic c.args.layout c.args.blocks) (IsRecovering c.args.magic c.args.layout c.args.blocks)
-    c.in_ok-write_synced.ensures.makes c.format_gates.ensures
+    c.in_ok-write_synced.ensures.makes c.format_gates.ensures.makes
     (λ before middle now told put gates.
     let short = at_told _ before told c.requires.short in
     let front : take 16 middle ≡ header_text c.args.magic c.args.blocks =

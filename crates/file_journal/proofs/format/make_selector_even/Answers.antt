@@ -3,8 +3,8 @@ use Rattle.file_journal.proofs.Names.{IsMakingEven, MakesEven, makes_weaker, at_
 use Rattle.file_journal.proofs.FormatLemmas.{even_by, even_crash, torn_quiet}
 use Rattle.file_journal.proofs.format.make_selector_even.Goals as goal
 
-pub returns : goal.returns
-returns g c =
+pub returns-clause-makes : goal.returns-clause-makes
+returns-clause-makes g c =
     let D = g.D.Disk in
     let old = c.args.disk.now in
     makes_weaker D c.write_synced.result old c.write_synced.new.disk _ _ MakesEven IsMakingEven

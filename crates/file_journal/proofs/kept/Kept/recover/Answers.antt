@@ -2,6 +2,7 @@ use Rattle.std.proofs.Common.{Result, Err, Ok, refl, ◌∙◌, ap}
 use Rattle.file_journal.specs.declared.faults.ReadFault.TheVariants as read
 use Rattle.file_journal.proofs.Names.{⊤, ReadFault, err_from_is_err_and, reads_none, told_weaker}
 use Rattle.file_journal.proofs.RestoringLemmas.{answers_read, answers_refused, restored, restored_at}
+use Rattle.file_journal.proofs.LookingLemmas.{calls_reads}
 use Rattle.file_journal.proofs.kept.Kept.recover.Goals as goal
 
 pub returns-in_err-journal-clause-answers : goal.returns-in_err-journal-clause-answers
@@ -56,3 +57,23 @@ returns-clause-stands_at g c =
     restored_at g.D.Disk ledger.steps ledger.seen ledger.form g.met.L.Ledger.is_seen c.args.blocks c.args.disk.now c.recover.new.disk c.read_into.new.disk c.in_ok-journal.journal _ made.recovered (λ failed. cc failed) made.runs
     (c.in_ok-ledger.ensures.state ∙ ap ledger.steps.fresh c.blocks-2.ensures.value) all.reads _ _ (told_weaker (g.D.Disk.content c.recover.new.disk) _ _ (λ octets told applies. applies.ok) (all.all (λ failed. cc failed) (λ failed. cc failed)))
     all.stands_on all.journal all.ended all.number (g.met.L.Ledger.reached _ all.by_records)
+
+pub returns-in_err-journal-clause-calls : goal.returns-in_err-journal-clause-calls
+returns-in_err-journal-clause-calls g c =
+    let made = rw c.magic.ensures at (rw c.layout.ensures at c.in_err-journal.ensures) in
+    made.calls
+
+pub returns-in_err-ledger-clause-calls : goal.returns-in_err-ledger-clause-calls
+returns-in_err-ledger-clause-calls g c =
+    let made = rw c.magic.ensures at (rw c.layout.ensures at c.in_ok-journal.ensures) in
+    made.calls
+
+pub returns-in_err-read_into-clause-calls : goal.returns-in_err-read_into-clause-calls
+returns-in_err-read_into-clause-calls g c =
+    let made = rw c.magic.ensures at (rw c.layout.ensures at c.in_ok-journal.ensures) in
+    calls_reads g.D.Disk g.L.Ledger.form.magic g.L.Ledger.form.layout c.args.blocks c.args.disk.now c.recover.new.disk c.read_into.new.disk made.calls c.read_into.ensures.reads.only
+
+pub returns-clause-calls : goal.returns-clause-calls
+returns-clause-calls g c =
+    let made = rw c.magic.ensures at (rw c.layout.ensures at c.in_ok-journal.ensures) in
+    calls_reads g.D.Disk g.L.Ledger.form.magic g.L.Ledger.form.layout c.args.blocks c.args.disk.now c.recover.new.disk c.read_into.new.disk made.calls c.read_into.ensures.reads.only
