@@ -1,7 +1,7 @@
 -- Counts over tasks that come one after another.
 use Rattle.std.proofs.Common.{◌≡◌, ℕ, suc, ◌+◌, List, [], ◌∷◌, ◌++◌, map, Some, inl, inr, refl, ap, sym, subst, ◌∙◌, arith}
 use Rattle.std.proofs.lemmas.List.Concat.{flat_map-cons}
-use Rattle.air_attempt.specs.Party.{Party}
+use Rattle.air_world.specs.Attempts.Party.{Party}
 use Rattle.air_rehearsal.specs.declared.report.Report.{Report as StoredReport}
 use Rattle.air_rehearsal.proofs.Names.{slice_get, true, AllByRecursion, flat_map, range_with_len, task_count, HeadlineIn, World, TellsThen, acked_more, kept_more, told, CountsAcked, ClientTask, CountOf, IsAcked, IsAckedAndKept, all_tasks, tasks_of}
 

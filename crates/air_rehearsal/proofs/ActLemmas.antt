@@ -2,7 +2,7 @@
 use Rattle.std.proofs.Common.{◌≡◌, refl, sym, ap, ◌∙◌, subst, Option, None, Some, false}
 use Rattle.ftl0_client.specs.Client.{ClientEvent}
 use Rattle.ftl0_client.specs.ClientStep.{happening}
-use Rattle.air_attempt.specs.Party.{Party}
+use Rattle.air_world.specs.Attempts.Party.{Party}
 use Rattle.air_rehearsal.proofs.Names.{is_some, append-nil, Cuts, LastsSo, cut_state, Ghosts, IsSilent, IsClient, ClientDid, ClientPart, ClientTakes, part_with, IsAllowed, Event, client_started, party_after, ClientLanesLaw, HasLanes, Lanes, lanes_of, ActsPart, BeCut, BeginsPart, KeepsOthers, SaysAll, DoesPart, IsPart, IsSeat, PartyGoes, Seat, TakesPart, IsSteady, Cut, Part, Party as StoredParty}
 use Rattle.air_rehearsal.proofs.CutLemmas.{party_but}
 use Rattle.air_rehearsal.proofs.PartLemmas.{carries_none, silent_noted, steady_on}

@@ -3,7 +3,7 @@ use Rattle.std.proofs.Common.{◌≡◌, ℕ, zero, suc, List, [], Bool, true, f
 use Rattle.std.proofs.Common.{length, refl, sym, ap, subst, ◌∙◌}
 use Rattle.std.specs.Prelude.{◌↔◌}
 use Rattle.std.specs.List.{slice_get}
-use Rattle.air_attempt.specs.Party.{Party}
+use Rattle.air_world.specs.Attempts.Party.{Party}
 use Rattle.air_rehearsal.proofs.Names.{IsTrue, is_some, both_ways, none-some, same_Some, IsLawful, Transmission, Window, window_of, Lists, all-at, Attempt, Placed, newest, HasParty, MayCome, last_unfinished, Sound, PartyAt, World, MayDeliver, Lanes, lanes_by, lanes_of, numbered, IsLastGoing, IsSeat, PlaysStations, Party as StoredParty, Stations}
 use Rattle.air_rehearsal.proofs.PartiesLemmas.{seat-of, stored-of}
 

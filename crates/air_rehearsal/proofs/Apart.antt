@@ -1,7 +1,7 @@
 -- A client that is broken off, and cuts that are to come.
 use Rattle.std.specs.Prelude.{◌≡◌, ◌≤◌, ◌∷◌}
 use Rattle.std.proofs.Common.{sym, ap, ◌∙◌, subst, arith}
-use Rattle.air_attempt.specs.Party.{Party}
+use Rattle.air_world.specs.Attempts.Party.{Party}
 use Rattle.air_rehearsal.proofs.Names.{ℕ, zero, suc, List, [], slice_get, slice_set, true, Some, IfSome, refl, same_Some, Cuts, Ghosts, told_weaker, images_now, ServerState, WorldStep, broken, SoundLaw, IsAllowed, break_client, cut_client, cut_server, PartyAt, World, counted, with_party, DiskStep, Stage, StepBy, Tells, Bench, GoesOn, IsBench, IsStage, bench_of, counts_with, Report, BrokeOff, ChangesAt, Clients, IsSeated, with_server, waiting_of, StandsNow, Role, Station, breaks_off, client_at, the_server, waiting_after, will_be_cut, PlaysParty, asked_from, Cut, Party as StoredParty, Stations}
 use Rattle.air_rehearsal.proofs.ClientFacts.{IsClients, for_other, for_own}
 use Rattle.air_rehearsal.proofs.ClientGoes.{goes_client, set_there}

@@ -1,7 +1,7 @@
 -- The clients of a rehearsal and those of the world that they play, one by one.
 use Rattle.std.specs.Prelude.{◌≡◌, ◌∷◌}
 use Rattle.std.proofs.Common.{sym, ap, ◌∙◌}
-use Rattle.air_attempt.specs.Party.{Party}
+use Rattle.air_world.specs.Attempts.Party.{Party}
 use Rattle.air_rehearsal.proofs.Names.{ℕ, zero, suc, List, [], length, slice_get, slice_set, Some, refl, same_Some, KeepParties, KeepsAllButLanes, PlayParties, PlaysParty, Party as StoredParty}
 use Rattle.air_rehearsal.proofs.PairLemmas.{pair-left, pair-right, pair-set}
 

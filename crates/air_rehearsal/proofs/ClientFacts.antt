@@ -1,7 +1,7 @@
 -- What an event in which a client takes part is for each station.
 use Rattle.std.specs.Prelude.{◌≡◌, ◌≢◌, ◌==◌, if◌then◌else◌}
 use Rattle.std.proofs.Common.{sym, ap, ◌∙◌, subst, inl, inr, arith}
-use Rattle.air_attempt.specs.Party.{Party}
+use Rattle.air_world.specs.Attempts.Party.{Party}
 use Rattle.air_rehearsal.proofs.Names.{ℕ, zero, suc, Bool, false, slice_get, Some, refl, eq-eqb, eqb_tells, same_Some, Placed, ClientEvent, Happens, ClientPart, ClientTakes, DeliversToClient, IsPartOf, Event, ask_download, ask_list, ask_resume, ask_upload, break_client, cut_client, cut_server, tick_client, tick_server, to_client, to_server, World, Role, acts, client_at, for_client, looks_on, role_of, the_server}
 
 -- it is this client's alone

@@ -4,7 +4,7 @@ use Rattle.std.proofs.Common.{sym, ap, ◌∙◌, subst, inl, inr, arith}
 use Rattle.client_notes.specs.Several as notes
 use Rattle.client_notes.specs.State as notes_state
 use Rattle.file_store.specs.State.{StandsFor as StandsForStore}
-use Rattle.air_attempt.specs.Party.{Party}
+use Rattle.air_world.specs.Attempts.Party.{Party}
 use Rattle.air_rehearsal.specs.Standing.{StandsFor}
 use Rattle.air_rehearsal.proofs.Names.{ℕ, zero, suc, [], is_some, List, length, slice_get, slice_set, Option, None, Some, refl, same_Some, Cuts, LeavesOnly, Ghosts, told_weaker, weaker, window_of, Server, IsServer, ServerState, store_on, WorldStep, client_commands, ClientPart, ClientTakes, SoundLaw, Event, PartyAt, World, CarriesOut, DiskStep, Stage, StepBy, Tells, Bench, GoesOn, IsBench, IsStage, client_count, counts_with, Report, waiting_of, Makes, StandsDuring, StandsNow, least_done, Role, Station, acts, client_at, looks_on, role_of, the_server, waiting_after, CarriesPart, DoesPart, HasDone, IsSteady, PlayParties, PlaysParty, PlaysStations, asked_from, Cut, Party as StoredParty, Form, Lists, NotesCommand, notes_form}
 use Rattle.air_rehearsal.proofs.BenchLemmas.{played_at, plays_set, set_count}

@@ -5,7 +5,7 @@ use Rattle.std.proofs.Common.{subst, ◌∙◌}
 use Rattle.std.specs.Prelude.{if◌then◌else◌}
 use Rattle.ftl0_client.specs.Client.{ClientEvent, hears, ticks}
 use Rattle.ftl0_client.specs.Entries as job
-use Rattle.air_attempt.specs.Party.{Party}
+use Rattle.air_world.specs.Attempts.Party.{Party}
 use Rattle.air_rehearsal.proofs.Names.{slice_get, ⊤, AllByRecursion, slice_get_within, CallSign, Transmission, sending_all, slice_get-set_same, Attempted, asks, Attempt, IsAttempt, IsOneCall, Placed, IsLinkOf, client_sends, to_client_delivered, with_newest, ClientDid, after_event, called_again, did_by, has_call, job_gone_on, ClientDoes, ClientEvent as ClientIn, Happens, ClientPart, ClientTakes, DeliversToClient, IsPartOf, IsResuming, IsAllowed, SoundLaw, Event, ask_download, ask_list, ask_resume, ask_upload, break_client, cut_client, cut_server, tick_client, tick_server, to_client, to_server, IsParty, Sound, ClientGoes, party_after, with_asked, PartyAt, World, ClientLanesLaw, lanes_of, sending_each, PartyGoes}
 use Rattle.air_rehearsal.proofs.ClientSends.{GoesBy, goes-by}
 use Rattle.air_rehearsal.proofs.SentLanes.{begun_by, lanes-count, no-call-behind, sending-begins, sending-each}

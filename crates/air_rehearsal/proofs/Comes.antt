@@ -2,9 +2,9 @@
 use Rattle.std.specs.Prelude.{◌≡◌}
 use Rattle.std.proofs.Common.{sym, ap, ◌∙◌, subst}
 use Rattle.ftl0_client.specs.Client.{hears, ticks}
-use Rattle.ftl0_job.specs.Directory.{new_directory}
-use Rattle.ftl0_job.specs.declared.work.Work.TheVariants as work
-use Rattle.air_attempt.specs.Party.{Party}
+use Rattle.ftl0_client_job.specs.Directory.{new_directory}
+use Rattle.ftl0_client_job.specs.declared.work.Work.TheVariants as work
+use Rattle.air_world.specs.Attempts.Party.{Party}
 use Rattle.air_world.specs.Events.{asking}
 use Rattle.air_rehearsal.specs.declared.part.Part.TheVariants as stored
 use Rattle.air_rehearsal.proofs.Names.{ℕ, zero, suc, List, Some, refl, new_download, new_upload, file_of_task, to_client_delivered, part_with, with_current, ask_download, ask_list, ask_resume, tick_client, to_client, World, ComesAlways, ComesTo, numbered, IsLastGoing, IsSeat, Seat, PlaysParty, PlaysStations, Part, Party as StoredParty, Stations}

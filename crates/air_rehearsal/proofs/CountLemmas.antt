@@ -10,7 +10,7 @@ use Rattle.std.proofs.Common.{◌≡◌, ◌≢◌, ℕ, zero, suc, ◌+◌, ◌
 use Rattle.std.proofs.Common.{◌&&◌, cond, Option, None, Some, refl, ap, subst, ◌∙◌, inl, inr, arith, length-append}
 use Rattle.std.specs.Prelude.{is_none}
 use Rattle.ftl0_client.specs.Attempt.Attempted.{Attempted, outcome_of}
-use Rattle.air_attempt.specs.Party.{Party}
+use Rattle.air_world.specs.Attempts.Party.{Party}
 use Rattle.air_rehearsal.proofs.Names.{slice_get, slice_set, AllZip, count_by, range_with_len, sum_by, zip, cases_lt, sum_by-map-range_with_len_more, sum_by-append, sum_by-cons, same_Some, Outcome, is_under_way, outcome_by, Event, Schedule, World, one_if, until, came_to, cuts_of, is_question, last_world, times, IsStationOf, Role, Station, acts, breaks_off, client_at, cut_worlds, looks_on, role_of, stations_of, the_server, waiting_after, will_be_cut, with_cut}
 
 -- ---- counts of lists

@@ -4,7 +4,7 @@ use Rattle.std.proofs.Common.{◌∙◌, subst, inl, inr, arith, false, Option, 
 use Rattle.std.proofs.Common.{length-append}
 use Rattle.disk_model.specs.declared.halt.Halt.TheVariants as halt
 use Rattle.client_notes.specs.Several as notes
-use Rattle.air_attempt.specs.Party.{Party}
+use Rattle.air_world.specs.Attempts.Party.{Party}
 use Rattle.air_rehearsal.specs.declared.attempt.Attempt.{Attempt as StoredAttempt}
 use Rattle.air_rehearsal.specs.declared.part.Part.TheVariants as stored
 use Rattle.air_rehearsal.proofs.Names.{IfSome, OnOk, is_some, ⊤, append-nil, CallSign, Arming, ArmsOnly, Cuts, Failed, LastsSo, Passes, UsesUp, cut_state, IsTold, Ghosts, Halt, EachImage, images_now, state, at_told, makes_within, Window, window_of, NotesCommand, Lists, task_count, notes_form, StandsFor, Client, new_client, ClientState, IsClient, client_commands, party_cut, started_again, ClientPart, HasLanes, lanes_of, BeCut, Restarts, TouchesPart, uploads_by, uploads_then, BreaksOff, IsReadyParty, least_done, Strikes, HasAll, HasDone, IsPart, IsSeat, Seat, IsSteady, Part, Party as StoredParty}

@@ -1,7 +1,7 @@
 -- A rehearsal that was played to its end, or came to an event that may not come.
 use Rattle.std.specs.Prelude.{◌≡◌, ◌+◌, ◌<◌, ◌∷◌, ◌++◌}
 use Rattle.std.proofs.Common.{sym, ap, ◌∙◌, subst, inl, inr, arith}
-use Rattle.air_attempt.specs.Party.{Party}
+use Rattle.air_world.specs.Attempts.Party.{Party}
 use Rattle.air_rehearsal.specs.declared.report.Report.{Report as StoredReport}
 use Rattle.air_rehearsal.proofs.Names.{ℕ, zero, suc, List, [], length, map, slice_get, Some, refl, AllByRecursion, flat_map, range_with_len, task_count, AreFresh, Cuts, IsFresh, LastsSo, cut_state, Ghosts, IsRun, HeadlineIn, IsAllowed, Event, IsSchedule, Schedule, World, first_world, Stage, last_stage, EndsSo, Tells, HasPlayed, counts_to, BenchPlayed, EndsWhole, StaysSo, first_stage, Bench, IsStage, IsUnlawful, Rehearsed, lines_before, until, ClientTask, CountOf, IsAcked, IsAckedAndKept, Report, all_tasks, last_world, tasks_of, IsStationOf, Station, client_at, place_of, the_server}
 use Rattle.air_rehearsal.proofs.CutsAtEnd.{tells_cuts}

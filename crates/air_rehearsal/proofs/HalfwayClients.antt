@@ -1,7 +1,7 @@
 -- What is left of a client's disk where it took part in an event, however far that came.
 use Rattle.std.specs.Prelude.{◌≡◌, ◌⊎◌, ◌<◌, ◌∷◌}
 use Rattle.std.proofs.Common.{inl, inr, sym, ap, ◌∙◌, subst, arith}
-use Rattle.air_attempt.specs.Party.{Party}
+use Rattle.air_world.specs.Attempts.Party.{Party}
 use Rattle.air_rehearsal.specs.declared.part.Part.TheVariants as stored
 use Rattle.air_rehearsal.proofs.Names.{ℕ, zero, suc, List, length, slice_get, slice_set, Some, None, Option, refl, option_and_then, same_Some, Cuts, Ghosts, upload_file, ClientPart, ClientTakes, asking_file, next_upload, Event, ask_upload, break_client, PartyAt, World, Stage, LeavesAt, StopsApart, StopsBy, StopsCutting, StopsEvent, StopsPart, TriesToStart, stage_of, client_count, waiting_in, Clients, ComesAlways, MayTake, waiting_of, Role, Station, acts, client_at, place_of, role_of, the_server, IsPart, IsSeat, Seat, Cut, Part, Party as StoredParty, Stations}
 use Rattle.air_rehearsal.proofs.BenchLemmas.{set_count}

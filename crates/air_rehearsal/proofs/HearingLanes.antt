@@ -4,7 +4,7 @@ use Rattle.std.proofs.Common.{◌≡◌, ◌≢◌, ℕ, zero, suc, List, [], �
 use Rattle.std.proofs.Common.{sym, ap, ap₂, subst, ◌∙◌, true≢false}
 use Rattle.std.specs.Prelude.{if◌then◌else◌}
 use Rattle.ftl0_server.specs.Slots.{place_of}
-use Rattle.air_attempt.specs.Party.{Party}
+use Rattle.air_world.specs.Attempts.Party.{Party}
 use Rattle.air_rehearsal.proofs.Names.{slice_get, AllByRecursion, option_map, option_or, cond_both, same_Some, slice_get-map, slice_get_within, IsAt, Transmission, control_of, is_call, slice_get-set_other, slice_get-set_same, NodeEvent, hears, is_same_call, same_call-decides, Connected, Slot, all_freed, connected, StepLaw, Attempt, IsAnsweredBy, IsAttempt, IsEndOf, IsFromTo, IsOneCall, AreAttempts, IsSeatedIn, all_over, newest, newest_side, server_sends, to_server_delivered, with_newest, ServerSide, ServerDid, after_hearing, begun, connection_of, heard_by, all-at, place-of-not, some-at, ServerDoes, DeliversToServer, with_current, IsAllowed, SoundLaw, to_server, IsSideAt, Sound, ServerGoes, party_heard, PartyAt, World, next_moment, with_party, HearingLanesLaw, lanes_of, replying_each}
 use Rattle.air_rehearsal.proofs.AnswersCall.{answers-ua}
 use Rattle.air_rehearsal.proofs.CallersSeat.{freed-seat}

@@ -6,7 +6,7 @@ use Rattle.file_store.specs.Info.{info_of, is_complete}
 use Rattle.file_store.specs.Like.{IsStoreLike}
 use Rattle.client_notes.specs.declared.answers.Noted.TheVariants as noted
 use Rattle.client_notes.specs.declared.progress.Progress.TheVariants as progress
-use Rattle.air_attempt.specs.Party.{Party}
+use Rattle.air_world.specs.Attempts.Party.{Party}
 use Rattle.air_rehearsal.proofs.Names.{common_steps, AllByRecursion, option_and_then, option_map, same_Some, CallSign, fault_code, Info, Entry, Holding, Store, entry_of, octets_at, octets_of, like_back, like_entry, like_is_complete, like_octets_length, noted_as, noted_at, noted_by, Lists, Task, task_of, Progress, Asked, IsFileOf, upload_of, IsKept, IsGoodFile, Sound, World, IsStampedFor, IsUpload, PlaysStations, Stations}
 use Rattle.air_rehearsal.proofs.PartiesLemmas.{upload-at}
 

@@ -6,8 +6,8 @@ use Rattle.std.proofs.lemmas.List.Folds.{find_at}
 use Rattle.client_notes.specs.declared.answers.Noted.{Noted}
 use Rattle.client_notes.specs.declared.answers.Noted.TheVariants as noted
 use Rattle.client_notes.specs.declared.progress.Progress.TheVariants as progress
-use Rattle.air_attempt.specs.Party.{Party}
-use Rattle.air_files.proofs.Offered.{later-number}
+use Rattle.air_world.specs.Attempts.Party.{Party}
+use Rattle.air_world.proofs.files.Offered.{later-number}
 use Rattle.air_rehearsal.proofs.Names.{find, position, position_or_len, option_map, both_ways, cases_lt, cond-false, cond-true, le-ltb, lt-ltb, ne_eqb, get_or-reverse, length-reverse, fails_before_first, passes_at_first, get_or_from_slice_get, none-some, same_Some, slice_get-get_or, slice_get_cases, slice_get_past, slice_get_within, noted_as, noted_at, noted_by, is_going, Lists, Task, task_count, task_of, Progress, last_unfinished, Sound, PartyAt, World, is_acked, last_acked, number_if_acked, number_if_going, IsLastGoing}
 
 -- so many of the last tasks don't pass the test

@@ -1,15 +1,15 @@
 -- The names of specs, and of the crates below, that proofs use, in one place.
-pub use Rattle.air_attempt.proofs.Offered.{all-at, all-by, each-map, old-connection, old-none, place-of-is, place-of-not, some-at}
-pub use Rattle.air_attempt.specs.Attempt.{Attempt, IsAnsweredBy, IsAttempt, IsEndOf, IsFromTo, IsOneCall, IsRefusal}
-pub use Rattle.air_attempt.specs.Laws.{AreAttempts, IsBetween, IsSeatedIn}
-pub use Rattle.air_attempt.specs.Lists.{Placed}
-pub use Rattle.air_attempt.specs.Party.{Asked, IsFileOf, IsLinkOf, all_over, client_sends, file_of_task, first_party, newest, newest_side, over, server_sends, sessions_over, to_client_delivered, to_server_delivered, upload_of, with_answered, with_newest}
-pub use Rattle.air_attempt.specs.Sides.{ServerSide}
-pub use Rattle.air_attempt.specs.Transfers.{ClientDid, ServerDid, after_event, after_hearing, begun, called_again, connection_at, connection_of, did_by, did_to, has_call, heard_by, job_gone_on, served, ticked_by}
-pub use Rattle.air_files.specs.Kept.{HoldsAck, IsKept}
-pub use Rattle.air_files.specs.SoundStore.{NoneGone}
-pub use Rattle.air_files.specs.Uploads.{IsGoodFile, body_octets, file_ext, file_header, file_name, upload_name}
-unfoldable pub use Rattle.air_files.specs.Uploads.{upload_file}
+pub use Rattle.air_world.proofs.attempts.Offered.{all-at, all-by, each-map, old-connection, old-none, place-of-is, place-of-not, some-at}
+pub use Rattle.air_world.specs.Attempts.Attempt.{Attempt, IsAnsweredBy, IsAttempt, IsEndOf, IsFromTo, IsOneCall, IsRefusal}
+pub use Rattle.air_world.specs.Attempts.Laws.{AreAttempts, IsBetween, IsSeatedIn}
+pub use Rattle.air_world.specs.Attempts.Lists.{Placed}
+pub use Rattle.air_world.specs.Attempts.Party.{Asked, IsFileOf, IsLinkOf, all_over, client_sends, file_of_task, first_party, newest, newest_side, over, server_sends, sessions_over, to_client_delivered, to_server_delivered, upload_of, with_answered, with_newest}
+pub use Rattle.air_world.specs.Attempts.Sides.{ServerSide}
+pub use Rattle.air_world.specs.Attempts.Transfers.{ClientDid, ServerDid, after_event, after_hearing, begun, called_again, connection_at, connection_of, did_by, did_to, has_call, heard_by, job_gone_on, served, ticked_by}
+pub use Rattle.air_world.specs.Files.Kept.{HoldsAck, IsKept}
+pub use Rattle.air_world.specs.Files.SoundStore.{NoneGone}
+pub use Rattle.air_world.specs.Files.Uploads.{IsGoodFile, body_octets, file_ext, file_header, file_name, upload_name}
+unfoldable pub use Rattle.air_world.specs.Files.Uploads.{upload_file}
 pub use Rattle.air_rehearsal.specs.Asking.{MayResume, MayTakeFile}
 pub use Rattle.air_rehearsal.specs.Chain.{CarriesOut, DiskStep, Follow, IsCutOff, Stage, StartsAgain, StepBy, last_stage}
 pub use Rattle.air_rehearsal.specs.Counting.{EndsSo, Tells, TellsThen, acked_more, asked_more, cut_more, kept_more, no_counts, one_if, outcome_more, told}
@@ -93,8 +93,8 @@ pub use Rattle.disk_model.specs.Runs.{ChangesReads, CountsSome, EachImage, IsQui
 pub use Rattle.disk_model.specs.declared.disk.Disk.{Ghosts}
 pub use Rattle.disk_model.specs.declared.disk.DiskFault.{DiskFault}
 pub use Rattle.disk_model.specs.declared.halt.Halt.{Halt}
-pub use Rattle.file_entries.specs.Command.{Command, DropsNothing, after_all, begin, drop_entry, grow, seal}
-pub use Rattle.file_entries.specs.Follows.{Follows, FollowsLaw}
+pub use Rattle.file_store_model.specs.Command.{Command, DropsNothing, after_all, begin, drop_entry, grow, seal}
+pub use Rattle.file_store_model.specs.Follows.{Follows, FollowsLaw}
 pub use Rattle.file_journal.proofs.Offered.{cut_makes, first_all, makes_within, room_always, within_most}
 pub use Rattle.file_journal.specs.Form.{Form}
 unfoldable pub use Rattle.file_journal.specs.Journal.{journal_of}
@@ -113,10 +113,10 @@ pub use Rattle.ftl0_client.specs.ClientState.{ClientState, GoWithAttempt, IsAtte
 pub use Rattle.ftl0_client.specs.ClientStep.{ClientStep}
 pub use Rattle.ftl0_client.specs.Outcome.{Outcome}
 pub use Rattle.ftl0_client.specs.Outcomes.{is_under_way, outcome_by}
-pub use Rattle.ftl0_job.specs.Download.{new_download}
-pub use Rattle.ftl0_job.specs.JobState.{NotesGoWith}
-pub use Rattle.ftl0_job.specs.Table.{JobState, new_job}
-pub use Rattle.ftl0_job.specs.Upload.{new_upload}
+pub use Rattle.ftl0_client_job.specs.Download.{new_download}
+pub use Rattle.ftl0_client_job.specs.JobState.{NotesGoWith}
+pub use Rattle.ftl0_client_job.specs.Table.{JobState, new_job}
+pub use Rattle.ftl0_client_job.specs.Upload.{new_upload}
 pub use Rattle.ftl0_server.specs.Calls.{HandsOutNext, Hears, HearsEvent, SameStore}
 pub use Rattle.ftl0_server.specs.Connection.Connected.{Connected, caller_of, greeted}
 pub use Rattle.ftl0_server.specs.Connection.Hearing.{Happened, hearing, parts_as, progressed, rest_as, ticking}
@@ -127,7 +127,7 @@ pub use Rattle.ftl0_server.specs.Slots.{PlacesSend, Slot, all_freed, connected, 
 pub use Rattle.ftl0_session.proofs.uploads.UploadRows.{same_call-decides}
 pub use Rattle.ftl0_session.specs.Uploads.Failures.{Failure, NoReadFails, failed_reads, failed_write}
 pub use Rattle.ftl0_session.specs.Uploads.Session.{is_same_call}
-pub use Rattle.node.specs.Events.{IsFor, NodeEvent, hears, ticks}
+pub use Rattle.turn_loop.specs.Events.{IsFor, NodeEvent, hears, ticks}
 pub use Rattle.pfh_items.proofs.Offered.{AreItems-stamped_items, one_header, stamped-text}
 pub use Rattle.pfh_items.specs.Faults.{fault_code, field_of, file_parts}
 pub use Rattle.pfh_items.specs.Layout.{FileText, HeaderValue, ItemValue, header_text}
@@ -137,8 +137,8 @@ pub use Rattle.pfh_writer.specs.Built.{BuilderValue, built_items, item}
 unfoldable pub use Rattle.pfh_writer.specs.Built.{mandatory_saying}
 pub use Rattle.px_base.specs.CallSign.{CallSign, CallText, IsBase, IsCall, OneCall, is_call_char}
 pub use Rattle.px_base.specs.Numbers.{le32, le32_octets}
-pub use Rattle.server_laws.specs.Misses.{FrontOfEventLaw, MissesLaw, begun_in}
-pub use Rattle.server_laws.specs.Places.{SlotDrains, SlotsDrain, StepLaw, refusals}
+pub use Rattle.ftl0_server.specs.StepLaws.Misses.{FrontOfEventLaw, MissesLaw, begun_in}
+pub use Rattle.ftl0_server.specs.StepLaws.Places.{SlotDrains, SlotsDrain, StepLaw, refusals}
 pub use Rattle.std.proofs.Math.Seq.{take-length}
 pub use Rattle.std.proofs.lemmas.Bool.{and_parts, both_ways, cases_Bool, cases_lt, cond-false, cond-true, cond_both, eq-eqb, le-ltb, lt-ltb, ne_eqb, not-true, not_from_false, or_cases, or_from, or_left, or_parts, or_right}
 pub use Rattle.std.proofs.lemmas.Bool.Decides.{Decides-eqb, Decides-ltb, eqb_tells, nat_tests}

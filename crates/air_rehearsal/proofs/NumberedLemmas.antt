@@ -3,7 +3,7 @@ use Rattle.std.specs.Prelude.{◌≡◌, ◌↔◌, ◌%◌, ◌^◌, ◌≤◌,
 use Rattle.std.proofs.Common.{sym, ap, subst, arith, ◌∙◌}
 use Rattle.ax25_link.specs.Kept.{is_pending, is_there}
 use Rattle.ax25_link.specs.Timer.{is_down}
-use Rattle.air_attempt.specs.Party.{Party}
+use Rattle.air_world.specs.Attempts.Party.{Party}
 use Rattle.air_rehearsal.proofs.Names.{ℕ, zero, suc, List, length, slice_get, Bool, true, false, not, IsTrue, Option, None, Some, refl, option_and_then, option_map_or, none-some, slice_get_within, Ghosts, Transmission, Window, LinkState, Calling, Down, Ending, Up, AttemptState, Attempted, IsAttemptOf, attempt_closed, attempt_pending, client_closed, Attempt, newest, World, IsClosed, IsClosedBy, IsDown, attempts_of, party_of, sent_of, IsLane, lanes_by, lanes_of, numbered, AreReady, IsReadyParty, PlaysParty, PlaysStations, Party as StoredParty, Stations}
 use Rattle.air_rehearsal.proofs.AllowedLemmas.{numbered-some}
 use Rattle.air_rehearsal.proofs.CourseLemmas.{there}

@@ -2,7 +2,7 @@
 -- or for the last one.
 use Rattle.std.specs.Prelude.{◌≡◌, ◌⊎◌, ◌<◌, ◌≤◌}
 use Rattle.std.proofs.Common.{inl, inr, sym, ap, subst, ◌∙◌, arith}
-use Rattle.air_attempt.specs.Party.{Party}
+use Rattle.air_world.specs.Attempts.Party.{Party}
 use Rattle.air_rehearsal.specs.Standing.{StandsFor}
 use Rattle.air_rehearsal.proofs.Names.{ℕ, List, [], length, Some, refl, option_map, get_or, slice_get-get_or, slice_get-map, Cuts, LastsSo, cut_state, IsTold, Ghosts, journal_of, StandsFor as StandsForNotes, window_of, CallSign, first_party, Schedule, PartyAt, first_world, pacsat, Stage, IsHalfway, TriesToOpen, TriesToStart, first_stage, EndsHalf, HalfStep, StandsNow, IsStationOf, Station, client_at, the_server}
 use Rattle.air_rehearsal.proofs.Alike.{HasBlocks, client_alike, server_alike}

@@ -12,7 +12,7 @@
 use Rattle.std.proofs.Common.{◌≡◌, ℕ, zero, suc, ◌+◌, List, [], ◌∷◌, ◌++◌, length, Option, None, Some}
 use Rattle.std.proofs.Common.{refl, sym, ap, ◌∙◌, arith}
 use Rattle.std.specs.List.{slice_get, slice_set}
-use Rattle.air_attempt.specs.Party.{Party}
+use Rattle.air_world.specs.Attempts.Party.{Party}
 use Rattle.air_rehearsal.proofs.Names.{none-some, same_Some, AllZip-long, Asked, upload_file, upload_name, Sound, PartyAt, World, AreNamed, IsSeat, PlayParties, PlaysParty, PlaysStations, asked_from, Upload, Party as StoredParty, Stations}
 use Rattle.air_rehearsal.proofs.PairLemmas.{pair-at, pair-left, pair-right, pair-set, pair-set_left}
 

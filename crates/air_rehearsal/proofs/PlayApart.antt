@@ -1,7 +1,7 @@
 -- What the stations make of an event in which the server takes no part, in whichever world is played.
 use Rattle.std.specs.Prelude.{◌≡◌, ◌≤◌, ◌∷◌, ◌++◌}
 use Rattle.std.proofs.Common.{sym, ap, ◌∙◌, subst}
-use Rattle.air_attempt.specs.Party.{Party}
+use Rattle.air_world.specs.Attempts.Party.{Party}
 use Rattle.air_rehearsal.specs.Seats.{asks}
 use Rattle.air_rehearsal.specs.declared.part.Part.TheVariants as stored
 use Rattle.air_rehearsal.proofs.Names.{ℕ, suc, List, [], length, slice_get, slice_set, true, Some, IfSome, refl, append-nil, same_Some, Cuts, Ghosts, EachImage, StandsFor, ServerState, upload_file, broken, ClientPart, ClientTakes, asking_file, next_upload, SoundLaw, IsAllowed, Event, ask_upload, break_client, cut_client, cut_server, with_asked, PartyAt, World, counted, with_party, Tells, one_if, IsBench, counts_with, BreaksOff, Report, is_fetch, is_question, is_refusal, Clients, ComesAlways, GoesApart, MayTake, TookPart, clients_of, with_server, IsPart, IsSeat, Seat, IsSteady, asked_from, Upload, Cut, Part, Party as StoredParty, Stations}

@@ -2,7 +2,7 @@
 use Rattle.std.specs.Prelude.{◌≡◌, ◌≢◌, ◌+◌, ◌==◌, ◌∷◌, if◌then◌else◌}
 use Rattle.std.specs.Prelude.{◌&&◌}
 use Rattle.std.proofs.Common.{sym, ap, ◌∙◌, subst, arith}
-use Rattle.air_attempt.specs.Party.{Party}
+use Rattle.air_world.specs.Attempts.Party.{Party}
 use Rattle.air_rehearsal.specs.declared.report.Report.{Report as StoredReport}
 use Rattle.air_rehearsal.proofs.Names.{ℕ, zero, suc, List, [], slice_get, slice_set, map, Bool, false, true, Option, None, Some, refl, AllZip, same_Some, FrameValue, NodeEvent, hears, ticks, Outcome, is_under_way, is_same_call, sessions_over, ServerDid, ServerDoes, ServerEvent, broken, ServerTakes, Event, break_client, cut_client, cut_server, tick_server, to_server, ask_download, ask_list, ask_resume, ask_upload, tick_client, to_client, parties_after, party_heard, party_ticked, PartyAt, World, Tells, one_if, told, came_in, counts_with, cuts_in, Report, is_fetch, is_question, is_refusal, Role, Station, acts, breaks_off, client_at, looks_on, role_of, the_server, will_be_cut, Stations}
 use Rattle.air_rehearsal.proofs.CountLemmas.{SameAttempt, came-at, came-same, same-each}

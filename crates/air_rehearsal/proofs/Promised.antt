@@ -2,9 +2,9 @@
 -- of each later world follows from the one before.
 use Rattle.std.specs.Prelude.{◌∷◌}
 use Rattle.std.proofs.Common.{inl, inr, sym, subst}
-use Rattle.file_entries.specs.IsStore.{IsStore}
+use Rattle.file_store_model.specs.IsStore.{IsStore}
 use Rattle.file_store.specs.State.{StandsFor as StandsForStore}
-use Rattle.air_files.specs.Facts.{IsOfferKept}
+use Rattle.air_world.specs.Files.Facts.{IsOfferKept}
 use Rattle.air_world.specs.Offered.{Offered}
 use Rattle.air_rehearsal.proofs.Names.{ℕ, List, [], refl, ⊤, AllByRecursion, Cuts, Ghosts, Follows, FollowsLaw, Store, HeadlineIn, HeadlineStays, Event, World, Follow, Stage, StartsAgain, last_stage, KeepsPromise, PromisedSince, StandsDuring, StandsNow, the_server}
 use Rattle.air_rehearsal.proofs.Alike.{HasBlocks, server_alike}

@@ -1,7 +1,7 @@
 -- Clients stay ready where one of them takes part in an event.
 use Rattle.std.proofs.Common.{◌≡◌, ◌≢◌, ◌⊎◌, ℕ, zero, suc, ◌<◌, ◌≤◌, List, [], ◌∷◌, ◌++◌, length, Some, Result, Ok, Err}
 use Rattle.std.proofs.Common.{refl, sym, ap, subst, inl, inr, arith}
-use Rattle.ftl0_job.specs.declared.work.Work.TheVariants as work
+use Rattle.ftl0_client_job.specs.declared.work.Work.TheVariants as work
 use Rattle.air_rehearsal.proofs.Names.{slice_get, slice_set, slice_index_or, OnOk, same_Some, slice_get_read, CallSign, longest_file, Lists, got_of, new_download, NotesGoWith, JobState, new_job, Ghosts, Party, Stations, AreReady, IsReadyParty, KeepsAllButLanes, KeepsClients}
 use Rattle.air_rehearsal.proofs.PairLemmas.{pair-right, set_at}
 

@@ -2,7 +2,7 @@
 use Rattle.std.specs.Prelude.{◌≡◌, ◌≤◌}
 use Rattle.std.proofs.Common.{sym, ap, ◌∙◌, subst, arith}
 use Rattle.client_notes.specs.State as notes
-use Rattle.air_attempt.specs.Party.{Party}
+use Rattle.air_world.specs.Attempts.Party.{Party}
 use Rattle.air_rehearsal.specs.Standing.{StandsFor}
 use Rattle.air_rehearsal.proofs.Names.{ℕ, List, length, slice_get, is_some, false, true, Option, None, Some, refl, same_Some, Cuts, Ghosts, Lists, WorldStep, SoundLaw, Event, PartyAt, World, DiskStep, Stage, StepBy, Bench, GoesOn, IsBench, IsStage, client_count, counts_with, Tells, KeepsClients, Report, CountsCut, ServesEvent, serving, waiting_of, StandsNow, Role, Station, acts, client_at, looks_on, role_of, the_server, waiting_after, PlaysParty, Party as StoredParty, Stations}
 use Rattle.air_rehearsal.proofs.BenchLemmas.{kept_count, kept_from, one_at, played_at}

@@ -1,7 +1,7 @@
 -- What a frame that the server hears, and what a tick, make of the clients that stations play.
 use Rattle.std.proofs.Common.{◌≡◌, ◌≢◌, ◌⊎◌, ℕ, suc, ◌<◌, List, [], ◌∷◌, length, Some, false, refl, sym, ap, subst}
 use Rattle.std.proofs.Common.{◌%◌, ◌^◌, ◌∙◌, inl, inr, arith}
-use Rattle.air_attempt.specs.Party.{Party}
+use Rattle.air_world.specs.Attempts.Party.{Party}
 use Rattle.air_rehearsal.specs.declared.attempt.Attempt.{Attempt as StoredAttempt}
 use Rattle.air_rehearsal.proofs.Names.{filter, is_some, slice_get, slice_set, length-set, same_Some, slice_get_within, CallSign, FrameValue, IsAt, Transmission, delivering, is_same_call, Server, Empties, happening, Client, ClientState, IsClient, IsFor, NodeEvent, ticks, Attempt, IsAttempt, IsFromTo, newest, to_server_delivered, with_newest, ServerDid, all-at, DeliversToServer, with_current, IsAllowed, tick_server, to_server, Sound, ServerGoes, PartyAt, World, next_moment, HearingLanesLaw, TickingLanesLaw, HasLanes, IsLane, Lanes, lanes_by, lanes_of, replying_each, timing_each, AreTimed, PlayParties, PlaysParty, Lane, Party as StoredParty}
 use Rattle.air_rehearsal.proofs.PairLemmas.{set_at}

@@ -1,6 +1,6 @@
 -- The frame that comes to the server is the one that the world delivers.
 use Rattle.std.proofs.Common.{◌≡◌, ℕ, zero, suc, ◌<◌, List, [], ◌∷◌, length, Some, Result, refl, sym, ap, subst, ◌∙◌, true}
-use Rattle.air_attempt.specs.Party.{Party}
+use Rattle.air_world.specs.Attempts.Party.{Party}
 use Rattle.air_rehearsal.proofs.Names.{is_some, slice_get, slice_set, Option, ⊤, slice_get_within, FrameValue, IsAt, Transmission, delivering, window_of, Ghosts, DiskFault, IsKnown, Hears, HearsEvent, server_hearing, IsFor, hears, Attempt, newest, to_server_delivered, with_current, IsAllowed, to_server, Sound, PartyAt, World, next_moment, with_party, HasLanes, IsLane, lanes_by, IsTaken, Serving, PlayParties, PlaysWorld, asked_from, Cut, Lane, Party as StoredParty}
 use Rattle.air_rehearsal.proofs.ServingHeard.{for-server, plays-changed, plays-delivered}
 use Rattle.air_rehearsal.proofs.ServingParties.{plays-both, plays-length}

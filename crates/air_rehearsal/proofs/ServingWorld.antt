@@ -2,11 +2,11 @@
 use Rattle.std.proofs.Common.{◌≡◌, ℕ, Bool, true, false, List, [], ◌∷◌, length}
 use Rattle.std.proofs.Common.{Option, None, Some, refl, sym, ap, subst, ◌∙◌}
 use Rattle.std.specs.Prelude.{◌&&◌, if◌then◌else◌}
-use Rattle.file_entries.specs.Command.{after}
+use Rattle.file_store_model.specs.Command.{after}
 use Rattle.ftl0_server.specs.Server.{Refused}
 use Rattle.ftl0_server.specs.Server.{sends_by}
 use Rattle.ftl0_server.specs.Slots.{place_of}
-use Rattle.air_attempt.specs.Party.{Party}
+use Rattle.air_world.specs.Attempts.Party.{Party}
 use Rattle.air_rehearsal.proofs.Names.{map, slice_get, option_map, length-map, same_Some, FrameValue, is_call, Ghosts, Command, after_all, begin, drop_entry, grow, seal, Leaves, told_weaker, weaker, MakesFirst, Store, Failure, is_same_call, Server, ServerSends, called_by, hearing_at, hearing_by, hearing_stranger, sends_of_places, server_next, settled, Empties, happening, stepped, PlacesSend, Slot, connected, first_empty, free, leaving, places_next, NodeEvent, hears, ticks, Attempt, all_over, over, sessions_over, ServerDid, after_hearing, server_commands, ServerTakes, Event, Sound, ServerGoes, parties_after, party_heard, party_ticked, World, counted, next_moment, HasLanes, Lanes, lanes_by, lanes_of, StandsDuring, the_server, PlayParties, PlaysParty, Party as StoredParty}
 use Rattle.air_rehearsal.proofs.ServingParties.{at-mapped, plays-both, plays-each, plays-length}
 

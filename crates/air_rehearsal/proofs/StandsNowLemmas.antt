@@ -2,7 +2,7 @@
 use Rattle.std.specs.Prelude.{◌≡◌}
 use Rattle.std.proofs.Common.{subst}
 use Rattle.client_notes.specs.State as notes
-use Rattle.air_attempt.specs.Party.{Party}
+use Rattle.air_world.specs.Attempts.Party.{Party}
 use Rattle.air_rehearsal.proofs.Names.{ℕ, List, false, true, Option, None, Some, IfSome, refl, IsTold, Ghosts, EachImage, images_now, Lists, PartyAt, World, StandsNow, client_at}
 
 pub told_content : (content : Option (List ℕ)) → IsTold content → (octets : List ℕ) × (content ≡ Some octets)

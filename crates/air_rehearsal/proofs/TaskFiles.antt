@@ -1,7 +1,7 @@
 -- The file of a client's task, by the uploads that were asked.
 use Rattle.std.proofs.Common.{◌≡◌, ℕ, ◌-◌, ◌≤◌, ◌==◌, List, Option, None, Some, sym, ap, ◌∙◌, arith}
 use Rattle.std.specs.List.{slice_get}
-use Rattle.air_attempt.specs.Party.{Party}
+use Rattle.air_world.specs.Attempts.Party.{Party}
 use Rattle.air_rehearsal.proofs.Names.{option_and_then, option_map, cond-false, ne_eqb, Asked, file_of_task, upload_of, upload_file, World, PlaysStations, Upload, Party as StoredParty, Stations}
 use Rattle.air_rehearsal.proofs.PartiesLemmas.{file-at, no-file}
 

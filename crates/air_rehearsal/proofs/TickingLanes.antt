@@ -4,8 +4,8 @@ use Rattle.std.proofs.Common.{refl, sym, ap, ap₂, subst, ◌∙◌}
 use Rattle.ax25_link.specs.LinkStep as step
 use Rattle.ax25_link.specs.Stations.{Stations}
 use Rattle.ftl0_server.specs.Server.{Refused}
-use Rattle.server_laws.proofs.Offered.{silent-by}
-use Rattle.air_attempt.specs.Party.{Party}
+use Rattle.ftl0_server.proofs.step_laws.Offered.{silent-by}
+use Rattle.air_world.specs.Attempts.Party.{Party}
 use Rattle.air_rehearsal.proofs.Names.{slice_get, AllByRecursion, option_map, option_or, same_Some, slice_get-map, CallSign, window_of, stations_law, ticks, is_same_call, Connected, caller_of, ticking, Server, Slot, all_freed, connected, free, leaving, left_by, slot_ticking, StepLaw, refusals, Attempt, IsAttempt, IsEndOf, IsBetween, newest_side, ServerSide, ServerDid, connection_of, did_to, ticked_by, all-at, all-by, each-map, some-at, ServerDoes, SoundLaw, tick_server, Sound, ServerGoes, party_ticked, PartyAt, World, next_moment, TickingLanesLaw, lanes_of, timing_each}
 use Rattle.air_rehearsal.proofs.CallersSeat.{connection-seat, freed-seat, seat-found, seat-none}
 use Rattle.air_rehearsal.proofs.FramesTo.{HasNone, places-none, to_station}

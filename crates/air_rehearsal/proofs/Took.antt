@@ -1,7 +1,7 @@
 -- A client that took part, or was broken off, in whichever world is played.
 use Rattle.std.specs.Prelude.{◌≡◌, ◌+◌, ◌≤◌, ◌∷◌}
 use Rattle.std.proofs.Common.{sym, ap, ◌∙◌, subst, arith}
-use Rattle.air_attempt.specs.Party.{Party}
+use Rattle.air_world.specs.Attempts.Party.{Party}
 use Rattle.air_rehearsal.proofs.Names.{ℕ, zero, suc, List, [], slice_get, is_some, false, Bool, Option, None, Some, IfSome, refl, same_Some, Cuts, Ghosts, told_weaker, images_now, ServerState, Asked, upload_name, ClientDoes, WorldStep, ClientPart, ClientTakes, SoundLaw, IsAllowed, Event, with_asked, PartyAt, World, DiskStep, StepBy, Tells, GoesOn, IsBench, bench_of, counts_with, Report, Clients, IsSeated, MayTake, TookPart, with_server, waiting_of, StandsNow, Role, client_at, waiting_after, AreNamed, DoesPart, IsPart, PlaysStations, asked_from, Upload, Cut, Part, Stations}
 use Rattle.air_rehearsal.proofs.BenchLemmas.{plays_at}
 use Rattle.air_rehearsal.proofs.ClientFacts.{clients_event, happens_so, same_client}

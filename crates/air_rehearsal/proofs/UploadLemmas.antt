@@ -10,10 +10,10 @@ use Rattle.client_notes.specs.OnDisk.{Does, IsBeforeOrAfter, Untouched}
 use Rattle.client_notes.specs.Several as notes
 use Rattle.client_notes.specs.declared.answers.Begun.TheVariants as begun
 use Rattle.client_notes.specs.declared.refusals.NotesRefusal.TheVariants as refusal
-use Rattle.ftl0_job.specs.declared.work.Work.TheVariants as work
+use Rattle.ftl0_client_job.specs.declared.work.Work.TheVariants as work
 use Rattle.ftl0_client.specs.ClientStep.{happening}
-use Rattle.air_attempt.specs.Party.{Party}
-use Rattle.air_files.specs.Tasks.{AreTasks}
+use Rattle.air_world.specs.Attempts.Party.{Party}
+use Rattle.air_world.specs.Files.Tasks.{AreTasks}
 use Rattle.air_rehearsal.proofs.Names.{IfSome, IsErr, IsErrOf, IsTrue, OnOk, decimal, nat_lt, slice_get, option_map, bytes_eq, Decides-ltb, eqb_tells, decimal_injective, get_or-reverse, length-reverse, slice_get-get_or, slice_get_within, bytes_eq-Decides, CallSign, Failed, Ghosts, Halt, EachImage, alone, cut_makes, room_always, told_weaker, weaker, StartsBy, answer_last, answer_of, fresh_task, start_reaches, NotesCommand, after, new_task, Lists, Task, is_task_for, last_task, place_from_end, task_count, task_of, notes_form, NotesState, StandsFor, Several-one, one-half, Begun, NotesRefusal, JobState, new_job, new_upload, Becomes, asking, asks, ClientState, IsClient, Asked, upload_file, client_commands, ClientPart, client_started, HasLanes, lanes_of, BeginsPart, KeepsButNotes, StartsTask, TouchesDisk, TouchesPart, uploads_then, KeepsParty, least_done, AreNamed, AsksNext, CarriesPart, HasAll, IsSeat, Seat, Party as StoredParty}
 use Rattle.air_rehearsal.proofs.PartLemmas.{carries_none}
 

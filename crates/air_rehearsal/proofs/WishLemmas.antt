@@ -2,7 +2,7 @@
 use Rattle.std.specs.Prelude.{◌≡◌, ◌≢◌, ◌%◌, ◌==◌}
 use Rattle.std.proofs.Common.{sym, ap, ◌∙◌}
 use Rattle.air_schedule.specs.declared.event.Event.{Event as StoredEvent}
-use Rattle.air_attempt.specs.Party.{Party}
+use Rattle.air_world.specs.Attempts.Party.{Party}
 use Rattle.air_rehearsal.proofs.Names.{ℕ, min, true, false, Option, None, Some, is_some, refl, option_map, option_map_or, cond-false, cond-true, eq-eqb, ne_eqb, Lists, is_under_way, event_value, last_unfinished, ask_download, ask_resume, ask_upload, Sound, World, last_acked, IsDraw, Draw, next_number, next_state, none_drawn, question, state_after, wish, wish_by, wish_of, numbered, IsLastGoing, PlaysStations, Party as StoredParty, Stations}
 use Rattle.air_rehearsal.proofs.AllowedLemmas.{Has}
 use Rattle.air_rehearsal.proofs.PlayParts.{not_false}

@@ -2,7 +2,7 @@
 use Rattle.std.specs.Prelude.{◌≡◌, ℕ, ◌<◌, Some}
 use Rattle.client_notes.specs.Limits.{most_tasks}
 use Rattle.client_notes.specs.Notes.{task_count}
-use Rattle.air_attempt.specs.Party.{Party}
+use Rattle.air_world.specs.Attempts.Party.{Party}
 use Rattle.air_world.specs.Lawful.{IsFree, last_unfinished}
 
 -- for a new file: nothing is under way, and there is room for one more task

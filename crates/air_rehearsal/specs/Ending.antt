@@ -10,7 +10,7 @@ use Rattle.disk_model.specs.declared.disk.Disk.{Ghosts}
 use Rattle.disk_model.specs.Runs.{ChangesReads}
 use Rattle.file_store.specs.Reads.{StaysReady}
 use Rattle.file_store.specs.State.{IsKnown, StoreState, store_on}
-use Rattle.air_files.specs.Uploads.{upload_file}
+use Rattle.air_world.specs.Files.Uploads.{upload_file}
 use Rattle.air_world.specs.Sound.{Sound}
 use Rattle.air_world.specs.World.{PartyAt}
 use Rattle.air_rehearsal.specs.Counting.{TellsThen, kept_more}

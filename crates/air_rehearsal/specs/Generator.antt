@@ -9,8 +9,8 @@ use Rattle.ax25_link.specs.Air.{Transmission}
 use Rattle.ax25_link.specs.declared.state.LinkState.TheVariants.{Down}
 use Rattle.ftl0_client.specs.Attempt.Attempted.{Attempted}
 use Rattle.ftl0_client.specs.Outcomes.{is_under_way}
-use Rattle.air_attempt.specs.Attempt.{Attempt}
-use Rattle.air_attempt.specs.Party.{Party, newest}
+use Rattle.air_world.specs.Attempts.Attempt.{Attempt}
+use Rattle.air_world.specs.Attempts.Party.{Party, newest}
 use Rattle.air_world.specs.Lawful.{IsAllowed, last_unfinished}
 use Rattle.air_world.specs.Schedule.{Event, Schedule, ask_download, ask_resume, ask_upload, break_client, cut_client}
 use Rattle.air_world.specs.Schedule.{cut_server, tick_client, tick_server, to_client, to_server}

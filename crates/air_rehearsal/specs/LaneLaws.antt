@@ -1,8 +1,8 @@
 -- What events make of the transmissions of each client's current attempt, in terms of the frames that are sent.
 use Rattle.std.specs.Prelude.{◌≡◌, ◌≢◌, ℕ, suc, filter, false}
 use Rattle.ftl0_session.specs.Uploads.Session.{is_same_call}
-use Rattle.node.specs.Events.{NodeEvent, ticks}
-use Rattle.air_attempt.specs.Party.{Party}
+use Rattle.turn_loop.specs.Events.{NodeEvent, ticks}
+use Rattle.air_world.specs.Attempts.Party.{Party}
 use Rattle.air_world.specs.Events.{ClientPart, ClientTakes, DeliversToServer}
 use Rattle.air_world.specs.Lawful.{IsAllowed}
 use Rattle.air_world.specs.Schedule.{Event, to_server}

@@ -7,7 +7,7 @@ use Rattle.ax25_frames.specs.declared.control.Control.{Control}
 use Rattle.ax25_frames.specs.declared.control.Control.TheVariants.{Disc, Dm, Frmr, I, Rej, Rnr, Rr, Sabm, Ua, Ui}
 use Rattle.ax25_link.specs.Air.{Transmission, control_of, fresh}
 use Rattle.ax25_link.specs.Rows.{is_call}
-use Rattle.air_attempt.specs.Attempt.{Attempt}
+use Rattle.air_world.specs.Attempts.Attempt.{Attempt}
 use Rattle.air_rehearsal.specs.declared.attempt.Attempt.{Attempt as StoredAttempt}
 use Rattle.air_rehearsal.specs.declared.lane.Lane.{Lane}
 use Rattle.air_rehearsal.specs.declared.lane.Sent.{Sent}

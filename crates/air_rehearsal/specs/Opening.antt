@@ -6,7 +6,7 @@ use Rattle.disk_model.specs.declared.disk.Disk.{Ghosts}
 use Rattle.disk_model.specs.Runs.{EachImage}
 use Rattle.ax25_link.specs.Window.{window_of}
 use Rattle.client_notes.specs.State.{StandsFor}
-use Rattle.air_attempt.specs.Party.{first_party}
+use Rattle.air_world.specs.Attempts.Party.{first_party}
 use Rattle.air_world.specs.World.{pacsat}
 use Rattle.air_rehearsal.specs.Counting.{Tells, no_counts}
 use Rattle.air_rehearsal.specs.Played.{Opens}

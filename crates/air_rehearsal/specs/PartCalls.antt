@@ -14,13 +14,13 @@ use Rattle.client_notes.specs.Command.{NotesCommand}
 use Rattle.client_notes.specs.Notes.{Lists, task_count}
 use Rattle.client_notes.specs.Records.{notes_form}
 use Rattle.client_notes.specs.State.{StandsFor}
-use Rattle.ftl0_job.specs.JobState.{HasTask, IsTaskOf}
-use Rattle.ftl0_job.specs.Upload.{new_upload}
+use Rattle.ftl0_client_job.specs.JobState.{HasTask, IsTaskOf}
+use Rattle.ftl0_client_job.specs.Upload.{new_upload}
 use Rattle.ftl0_client.specs.Client.{Client, new_client}
 use Rattle.ftl0_client.specs.ClientState.{ClientState, IsClient}
 use Rattle.ftl0_client.specs.ClientStep.{Empties, happening}
 use Rattle.ax25_frames.specs.FrameText.{FrameValue}
-use Rattle.air_attempt.specs.Party.{Party}
+use Rattle.air_world.specs.Attempts.Party.{Party}
 use Rattle.air_world.specs.Events.{ClientPart}
 use Rattle.air_world.specs.Step.{client_started}
 use Rattle.air_rehearsal.specs.Chain.{StartsAgain}

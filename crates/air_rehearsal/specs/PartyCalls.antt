@@ -5,7 +5,7 @@ use Rattle.disk_model.specs.Cuts.{Cuts}
 use Rattle.disk_model.specs.declared.disk.Disk.{Ghosts}
 use Rattle.ax25_link.specs.Window.{window_of}
 use Rattle.client_notes.specs.Notes.{Lists, Task, task_of}
-use Rattle.air_attempt.specs.Party.{first_party}
+use Rattle.air_world.specs.Attempts.Party.{first_party}
 use Rattle.air_world.specs.Cuts.{broken}
 use Rattle.air_world.specs.Lawful.{last_unfinished}
 use Rattle.air_rehearsal.specs.Chain.{StartsAgain}

@@ -7,7 +7,7 @@ use Rattle.disk_model.specs.Cuts.{Cuts}
 use Rattle.disk_model.specs.declared.disk.Disk.{Ghosts}
 use Rattle.ftl0_server.specs.ServerState.{ServerState}
 use Rattle.ftl0_client.specs.Outcome.{Outcome}
-use Rattle.air_files.specs.SoundStore.{NoneGone}
+use Rattle.air_world.specs.Files.SoundStore.{NoneGone}
 use Rattle.air_world.specs.Cuts.{WorldStep}
 use Rattle.air_world.specs.Schedule.{Event}
 use Rattle.air_world.specs.Sound.{Sound}

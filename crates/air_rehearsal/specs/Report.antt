@@ -6,8 +6,8 @@ use Rattle.client_notes.specs.Notes.{task_count}
 use Rattle.ftl0_client.specs.Outcome.{Outcome}
 use Rattle.ftl0_client.specs.Outcome.TheVariants as outcome
 use Rattle.ftl0_client.specs.Outcomes.{is_under_way, outcome_by}
-use Rattle.air_attempt.specs.Party.{Party}
-use Rattle.air_files.specs.Kept.{HoldsAck, IsTaskKept}
+use Rattle.air_world.specs.Attempts.Party.{Party}
+use Rattle.air_world.specs.Files.Kept.{HoldsAck, IsTaskKept}
 use Rattle.air_world.specs.Schedule.{Event, Schedule, ask_download, ask_list, ask_resume, ask_upload}
 use Rattle.air_world.specs.World.{World, first_world}
 use Rattle.air_rehearsal.specs.Stations.{Station, cut_worlds, stations_of}

@@ -7,7 +7,7 @@ use Rattle.disk_model.specs.Runs.{EachImage}
 use Rattle.client_notes.specs.State.{StandsFor}
 use Rattle.ftl0_client.specs.Outcomes.{is_under_way, outcome_by}
 use Rattle.ftl0_server.specs.ServerState.{ServerState}
-use Rattle.air_attempt.specs.Party.{Party}
+use Rattle.air_world.specs.Attempts.Party.{Party}
 use Rattle.air_world.specs.Events.{ClientPart, ClientTakes}
 use Rattle.air_world.specs.Lawful.{IsAllowed}
 use Rattle.air_world.specs.Schedule.{Event}

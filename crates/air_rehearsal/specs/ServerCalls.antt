@@ -15,7 +15,7 @@ use Rattle.ftl0_server.specs.Calls.{Hears}
 use Rattle.ftl0_server.specs.Server.{Server, new_server, settled}
 use Rattle.ftl0_server.specs.ServerState.{IsServer, ServerState}
 use Rattle.ftl0_server.specs.ServerStep.{Empties, happening}
-use Rattle.node.specs.Events.{NodeEvent}
+use Rattle.turn_loop.specs.Events.{NodeEvent}
 use Rattle.air_world.specs.Events.{ServerTakes}
 use Rattle.air_world.specs.Schedule.{Event}
 use Rattle.air_world.specs.World.{World, store_blocks}

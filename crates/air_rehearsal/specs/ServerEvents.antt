@@ -4,7 +4,7 @@ use Rattle.std.specs.Option.{option_map}
 use Rattle.disk_model.specs.Cuts.{Cuts}
 use Rattle.disk_model.specs.declared.disk.Disk.{Ghosts}
 use Rattle.ftl0_server.specs.ServerState.{ServerState}
-use Rattle.air_files.specs.SoundStore.{NoneGone}
+use Rattle.air_world.specs.Files.SoundStore.{NoneGone}
 use Rattle.air_world.specs.Cuts.{ServerEvent}
 use Rattle.air_world.specs.Schedule.{Event}
 use Rattle.air_world.specs.Sound.{Sound}

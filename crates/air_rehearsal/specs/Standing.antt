@@ -5,7 +5,7 @@ use Rattle.disk_model.specs.declared.disk.Disk.{Ghosts}
 use Rattle.disk_model.specs.Runs.{images_now}
 use Rattle.file_journal.specs.Commands.{done_within}
 use Rattle.file_journal.specs.Form.{Form}
-use Rattle.node.specs.Events.{NodeEvent}
+use Rattle.turn_loop.specs.Events.{NodeEvent}
 use Rattle.file_store.specs.Command.{Command}
 use Rattle.file_store.specs.OnDisk as store
 use Rattle.file_store.specs.Store.{Store}
@@ -18,7 +18,7 @@ use Rattle.client_notes.specs.Records.{notes_form}
 use Rattle.client_notes.specs.Recovery as notes_recovery
 use Rattle.client_notes.specs.Several as notes
 use Rattle.client_notes.specs.State as notes_state
-use Rattle.air_attempt.specs.Party.{Party}
+use Rattle.air_world.specs.Attempts.Party.{Party}
 use Rattle.air_world.specs.Cuts.{client_commands, server_commands}
 use Rattle.air_world.specs.Events.{ClientPart, ClientTakes, ServerTakes}
 use Rattle.air_world.specs.Schedule.{Event}

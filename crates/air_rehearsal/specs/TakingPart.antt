@@ -10,13 +10,13 @@ use Rattle.client_notes.specs.Several as notes
 use Rattle.client_notes.specs.State.{StandsFor}
 use Rattle.ftl0_client.specs.Client.{ticks}
 use Rattle.ftl0_client.specs.ClientStep.{ClientStep}
-use Rattle.ftl0_job.specs.Directory.{new_directory}
-use Rattle.ftl0_job.specs.Download.{new_download}
-use Rattle.ftl0_job.specs.Upload.{new_upload}
-use Rattle.ftl0_job.specs.declared.work.Work.TheVariants as work
-use Rattle.air_attempt.specs.Party.{Asked, IsFileOf, Party}
-use Rattle.air_attempt.specs.Transfers.{ClientDid}
-use Rattle.air_files.specs.Uploads.{upload_file, upload_name}
+use Rattle.ftl0_client_job.specs.Directory.{new_directory}
+use Rattle.ftl0_client_job.specs.Download.{new_download}
+use Rattle.ftl0_client_job.specs.Upload.{new_upload}
+use Rattle.ftl0_client_job.specs.declared.work.Work.TheVariants as work
+use Rattle.air_world.specs.Attempts.Party.{Asked, IsFileOf, Party}
+use Rattle.air_world.specs.Attempts.Transfers.{ClientDid}
+use Rattle.air_world.specs.Files.Uploads.{upload_file, upload_name}
 use Rattle.air_world.specs.Cuts.{client_commands, party_cut}
 use Rattle.air_world.specs.Events.{ClientPart, DeliversToClient, asking, asking_file, next_upload, part_with}
 use Rattle.air_world.specs.Lawful.{last_unfinished}

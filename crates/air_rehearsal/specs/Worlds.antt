@@ -8,8 +8,8 @@ use Rattle.ax25_link.specs.Window.{window_of}
 use Rattle.file_store.specs.State.{store_on}
 use Rattle.ftl0_client.specs.ClientState.{IsClient}
 use Rattle.ftl0_server.specs.ServerState.{IsServer, ServerState}
-use Rattle.air_attempt.specs.Party.{Asked, Party}
-use Rattle.air_files.specs.Uploads.{upload_file, upload_name}
+use Rattle.air_world.specs.Attempts.Party.{Asked, Party}
+use Rattle.air_world.specs.Files.Uploads.{upload_file, upload_name}
 use Rattle.air_world.specs.World.{World, store_blocks}
 use Rattle.air_rehearsal.specs.Lanes.{HasLanes, lanes_of}
 use Rattle.air_rehearsal.specs.declared.asking.Upload.{Upload}

@@ -2,7 +2,7 @@
 
 ghost use Rattle.std.specs.Prelude.{◌≡◌, IfOk};
 ghost use Rattle.sha2.specs.Sha256.{sha256};
-ghost use Rattle.air_files.specs.Uploads.{body_octets, upload_file};
+ghost use Rattle.air_world.specs.Files.Uploads.{body_octets, upload_file};
 
 use pfh_items::{AX25_UPLOADER, UPLOAD_TIME};
 use pfh_writer::HeaderBuilder;

@@ -25,7 +25,7 @@ use crate::stations::Stations;
 use air_schedule::Event;
 use air_world::laws::{parts_law, schedule_law, sound_law, stores_law};
 use disk_model::CutDisk;
-use file_entries::laws::follows_law;
+use file_store_model::laws::follows_law;
 use ftl0_server::Server;
 use px_base::laws::one_call;
 use px_base::{Call, OutOfMemory};

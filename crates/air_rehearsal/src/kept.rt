@@ -4,11 +4,11 @@ ghost use Rattle.std.specs.Prelude.{◌≡◌, ℕ, ◌≤◌, [], ◌∷◌, Li
 ghost use Rattle.std.specs.Option.{option_map};
 ghost use Rattle.pfh_items.specs.Faults.{fault_code};
 ghost use Rattle.pfh_items.specs.Layout.{FileText, ItemValue};
-ghost use Rattle.file_entries.specs.Info.{info_of};
-ghost use Rattle.file_entries.specs.Store.{entry_of, octets_at};
+ghost use Rattle.file_store_model.specs.Info.{info_of};
+ghost use Rattle.file_store_model.specs.Store.{entry_of, octets_at};
 ghost use Rattle.file_store.specs.State.{IsKnown, IsReady, store_in, store_on};
-ghost use Rattle.air_attempt.specs.Party.{Party as PlayedParty, file_of_task};
-ghost use Rattle.air_files.specs.Kept.{HoldsAck, IsKept};
+ghost use Rattle.air_world.specs.Attempts.Party.{Party as PlayedParty, file_of_task};
+ghost use Rattle.air_world.specs.Files.Kept.{HoldsAck, IsKept};
 ghost use Rattle.air_world.specs.Sound.{Sound};
 ghost use Rattle.air_world.specs.World.{World, store_blocks};
 ghost use Rattle.air_rehearsal.specs.Counting.{EndsSo};

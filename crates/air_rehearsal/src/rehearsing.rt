@@ -9,7 +9,7 @@ use crate::stations::Stations;
 use air_schedule::Schedule;
 use air_world::laws::{parts_law, schedule_law, sound_law, stores_law};
 use disk_model::CutDisk;
-use file_entries::laws::follows_law;
+use file_store_model::laws::follows_law;
 use px_base::OutOfMemory;
 use std::alloc::Global;
 use thiserror::Error;

@@ -33,8 +33,8 @@ use ax25_frames::read_frame;
 use disk_model::{CutDisk, Disk, DiskFault};
 use file_store::laws::armed_law;
 use ftl0_server::Server;
+use ftl0_server::step_laws::{front_of_event_law, misses_law, step_law};
 use px_base::{Call, OutOfMemory};
-use server_laws::{front_of_event_law, misses_law, step_law};
 
 impl Stations {
     /// The server hears the transmission at this place of the client at that one, which may be delivered, at this

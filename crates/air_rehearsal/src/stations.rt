@@ -4,7 +4,7 @@ ghost use Rattle.std.specs.Prelude.{◌≡◌, ◌↔◌, ◌≤◌, ℕ, List, 
 ghost use Rattle.std.specs.Option.{option_copied};
 ghost use Rattle.air_schedule.specs.Events.{event_value};
 ghost use Rattle.ax25_link.specs.Air.{Transmission};
-ghost use Rattle.air_attempt.specs.Lists.{Placed};
+ghost use Rattle.air_world.specs.Attempts.Lists.{Placed};
 ghost use Rattle.air_world.specs.Lawful.{HasParty, IsFree, IsPossible, MayCome};
 ghost use Rattle.air_world.specs.Sound.{Sound};
 ghost use Rattle.air_world.specs.World.{World};

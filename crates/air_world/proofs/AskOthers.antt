@@ -3,7 +3,7 @@ use Rattle.std.proofs.Common.{◌≡◌, ℕ, ◌≤◌, List, [], ◌∷◌, le
 use Rattle.std.proofs.Common.{length-append}
 use Rattle.file_store.specs.IsStore.{FitsLength}
 use Rattle.file_store.specs.Limits.{longest_file}
-use Rattle.ftl0_job.specs.declared.work.Work.TheVariants as work
+use Rattle.ftl0_client_job.specs.declared.work.Work.TheVariants as work
 use Rattle.air_schedule.specs.Schedule.{AreTokens, IsFileNumber}
 use Rattle.air_world.proofs.Names.{Holding, Store, complete, entry_of, partial, found-fits, complete_octets, file_of, new_directory, new_download, GoWith, IsNotBegun, new_upload, Work, Party, AreFirstIfAny, HasNumber, got, IsSoundStore, IsWork, complete-entry, IsParty, Sound, PartyAt, World}
 use Rattle.air_world.proofs.Asked.{MayBeAsked, same-base}

@@ -2,7 +2,7 @@
 use Rattle.std.proofs.Common.{◌≡◌, ℕ, ◌-◌, ◌<◌, List, [], length, reverse, get_or, refl, sym, ap, ◌∙◌, subst, arith}
 use Rattle.std.proofs.Common.{Bool, true, Option, None, Some}
 use Rattle.client_notes.specs.declared.progress.Progress.TheVariants as progress
-use Rattle.ftl0_job.specs.declared.work.Work.TheVariants as work
+use Rattle.ftl0_client_job.specs.declared.work.Work.TheVariants as work
 use Rattle.air_world.proofs.Names.{position, option_map, get_or-reverse, length-reverse, position-Some, get_or_from_slice_get, same_Some, is_going, Lists, Task, task_count, task_of, Progress, task-at, Upload, new_upload, Asked, IsFileOf, Party, HasNumber, IsTaskFor, task-file, last_unfinished, IsParty, Sound, PartyAt, World}
 use Rattle.air_world.proofs.AskOthers.{GoesOnWell, ask-again}
 use Rattle.air_world.proofs.Asked.{MayBeAsked}

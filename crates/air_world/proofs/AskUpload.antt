@@ -1,7 +1,7 @@
 -- A new file may be asked of a client: it has its task then.
 use Rattle.std.proofs.Common.{◌≡◌, ◌⊎◌, ⊎_elim, ℕ, zero, suc, ◌+◌, ◌-◌, ◌==◌, ◌<◌, ◌≤◌, false, List, [], ◌∷◌, ◌++◌}
 use Rattle.std.proofs.Common.{length, refl, sym, ap, ◌∙◌, subst, arith, Option, None, Some, inl, inr, length-append}
-use Rattle.ftl0_job.specs.declared.work.Work.TheVariants as work
+use Rattle.ftl0_client_job.specs.declared.work.Work.TheVariants as work
 use Rattle.air_world.proofs.Names.{sha256, option_and_then, option_map, slice_get, eqb_tells, same_Some, fresh_task, after_all, most_tasks, Task, task_count, task_of, task-at, Upload, new_upload, Work, Attempt, Asked, IsFileOf, Party, upload_of, each-weaker, BeginLaw, AreTasks, IsTaskFor, IsWork, IsGoodFile, file-more, place-more, task-some, task_for, next_upload, Sound, PartyAt, World}
 use Rattle.air_world.proofs.Asked.{MayBeAsked}
 use Rattle.air_world.proofs.GoodFile.{good-upload}

@@ -1,6 +1,6 @@
 -- What is known of a client of which something is asked.
 use Rattle.std.proofs.Common.{◌≡◌, ℕ, ◌≤◌, List, ◌++◌, [], refl, sym, subst, append-nil}
-use Rattle.ftl0_job.specs.declared.work.Work.TheVariants as work
+use Rattle.ftl0_client_job.specs.declared.work.Work.TheVariants as work
 use Rattle.air_world.proofs.Names.{AllByRecursion, Work, IsNotBegun, NotesGoWith, new_job, new_upload, Attempt, Asked, Party, HasFacts, HasNumber, AreTasks, IsWork, IsGoodFile, PartyAt, World, IsParty, Sound}
 
 -- What is known of a client that begins an attempt, where these files were asked, and of its base, which has its task

@@ -2,7 +2,7 @@
 use Rattle.std.proofs.Common.{◌≡◌, ℕ, zero, suc, take, ◌+◌, List, [], ◌∷◌, ◌++◌, Bool, true, false, length, refl, sym}
 use Rattle.std.proofs.Common.{ap, subst, ◌∙◌, append-nil}
 use Rattle.client_notes.specs.Several as notes
-use Rattle.ftl0_job.specs.declared.work.Work.TheVariants as work
+use Rattle.ftl0_client_job.specs.declared.work.Work.TheVariants as work
 use Rattle.ftl0_client.specs.Client as client
 use Rattle.air_world.proofs.Names.{AllByRecursion, Transmission, NotesCommand, after_all, Lists, task_count, Work, new_upload, new_job, Client, ClientStep, SomeStepLaw, Attempt, AreAttempts, Asked, Party, to_client_delivered, ClientDid, after_event, each-weaker, HasFacts, started_with, AreTasks, IsWork, tasks-lists, broken, ClientDoes, ClientIsCut, party_cut, ClientPart, asking, asking_file, part_with, with_current, Sound, ClientLaws, ClientGoes, client_started, party_after, with_asked, PartyAt, World, counted, with_party}
 use Rattle.air_world.proofs.ClientBasics.{goes-with}

@@ -1,7 +1,7 @@
 -- A world that a client's event made of a sound one is sound where that client is as it should be.
 use Rattle.std.proofs.Common.{◌≡◌, ◌≢◌, ◌⊎◌, ℕ, zero, suc, ◌≤◌, List, [], ◌∷◌, ◌++◌, drop, Option, None, Some, refl}
 use Rattle.std.proofs.Common.{sym, ap, subst, ◌∙◌, inl, inr}
-use Rattle.ftl0_job.specs.declared.work.Work.TheVariants as work
+use Rattle.ftl0_client_job.specs.declared.work.Work.TheVariants as work
 use Rattle.air_world.specs.Sound.{GrantedAt}
 use Rattle.air_world.proofs.Names.{slice_get, AllByRecursion, cases_eq, same_Some, length-set, IsCall, slice_get-set_other, Work, Attempt, GoesWith, SitsBy, Asked, EachAttempt, Party, newest, ServerSide, all-at, all-by, each-append, each-weaker, set-at, HasFacts, BeginLaw, AreTasks, IsWork, StandsBy, IsGoodFile, file-more, place-more, AreGrantedOnce, AreStationsOf, IsParty, IsSideAt, Sound, PartyAt, World, counted, with_party}
 use Rattle.air_world.proofs.Seats.{AreSeatsKnown, between, calls, together}

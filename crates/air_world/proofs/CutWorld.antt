@@ -1,7 +1,7 @@
 -- An event of the server's that is cut keeps a sound world.
 use Rattle.std.proofs.Common.{◌≡◌, ◌≢◌, ◌⊎◌, ℕ, zero, suc, take, ◌<◌, ◌^◌, List, [], Bool, true, false, Option, None, Some, refl, sym, ap, subst, ◌∙◌, inl, inr}
 use Rattle.file_store.specs.Command.{after_all}
-use Rattle.server_laws.specs.Steps.{HasStep, SomeStepLaw}
+use Rattle.ftl0_server.specs.StepLaws.Steps.{HasStep, SomeStepLaw}
 use Rattle.air_world.proofs.Names.{slice_get, cases_eq, same_Some, Transmission, is_call, hears as frame_comes, AreAllowed, Command, DropsNothing, after_first, Store, Connected, LeftLaw, Party, sessions_over, connection_of, HasFacts, LeftIn, StayLaw, IsSoundStore, server_commands, Sound, HearingLaws, PartyAt, World}
 use Rattle.air_world.proofs.Marked.{IsComing, are-marked, delivered, none-marked}
 use Rattle.air_world.proofs.Seats.{between, connection-none}

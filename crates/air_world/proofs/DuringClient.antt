@@ -1,7 +1,7 @@
 -- What is promised holds while an event of a client's is under way, with its notes after the first of its commands.
 use Rattle.std.proofs.Common.{◌≡◌, ℕ, zero, suc, List, [], ◌∷◌, length, Some, refl, sym, ap, subst}
 use Rattle.client_notes.specs.Several as notes
-use Rattle.ftl0_job.specs.declared.work.Work.TheVariants as work
+use Rattle.ftl0_client_job.specs.declared.work.Work.TheVariants as work
 use Rattle.ftl0_client.specs.Client as client
 use Rattle.ftl0_client.specs.Client.{ClientEvent}
 use Rattle.air_world.specs.Events.{DeliversToClient}

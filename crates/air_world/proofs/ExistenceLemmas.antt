@@ -1,8 +1,8 @@
 -- Where an event may come there is a step.
 use Rattle.std.proofs.Common.{◌≡◌, ℕ, zero, suc, ◌-◌, ◌<◌, [], length, reverse, get_or, refl, sym, subst, arith, Bool}
 use Rattle.std.proofs.Common.{true, false, Option, None, Some, inl, inr}
-use Rattle.server_laws.specs.Steps as server
-use Rattle.ftl0_job.specs.declared.work.Work.TheVariants as work
+use Rattle.ftl0_server.specs.StepLaws.Steps as server
+use Rattle.ftl0_client_job.specs.declared.work.Work.TheVariants as work
 use Rattle.ftl0_client.specs.Client as client
 use Rattle.ftl0_client.specs.Laws as law
 use Rattle.air_world.proofs.Names.{position, option_map, eqb_tells, length-reverse, position-Some, same_Some, slice_get-get_or, Transmission, Refusal, Sending, next_sending, NodeEvent, hears, ticks, is_going, new_task, Lists, Task, task_count, task_of, new_directory, new_download, new_upload, Attempted, Client, IsSilent, sends_by, sends_of_attempt, sends_of_link, Party, to_client_delivered, to_server_delivered, task-file, ClientDoes, ClientEvent, Happens, ServerDoes, ServerEvent, broken, ClientPart, ClientTakes, IsResuming, ServerTakes, asking, asking_file, next_upload, part_with, with_current, IsPossible, last_unfinished, ExistenceLaw, Event, ask_download, ask_list, ask_resume, ask_upload, break_client, cut_client, cut_server, tick_client, tick_server, to_client, to_server, Sound, client_started, PartyAt, World, counted, next_moment, with_party}

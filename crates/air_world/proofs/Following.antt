@@ -1,6 +1,6 @@
 -- The store of a sound world follows from one world to the next, and so does what stands while an event is under way.
 use Rattle.std.proofs.Common.{◌≡◌, ℕ, zero, suc, List, [], ◌∷◌, Bool, true, false, length, take, refl, sym, ap, subst, ◌∙◌}
-use Rattle.file_entries.proofs.Offered.{AreAllowed-first, follows_law, none_dropped}
+use Rattle.file_store_model.proofs.Offered.{AreAllowed-first, follows_law, none_dropped}
 use Rattle.file_store.specs.Command.{after_all}
 use Rattle.air_world.proofs.Names.{Transmission, NodeEvent, hears as frame_comes, ticks as tick_comes, Follows, AreAllowed, Command, DropsNothing, KeepsFile, after, begin, drop_entry, grow, seal, after_first, Store, after_first-all, Party, NoneGone, such-first, ClientDoes, ClientEvent, ServerDoes, ServerEvent, WorldStep, server_commands, ClientPart, ServerTakes, IsPossible, Event, ask_download, ask_list, ask_resume, ask_upload, break_client, cut_client, cut_server, tick_client, tick_server, to_client, to_server, Sound, ServerLaws, ServerGoes, World, next_moment}
 use Rattle.air_world.proofs.CutWorld.{own-left, take-none}

@@ -1,6 +1,6 @@
 -- Each event that may come keeps a sound world.
 use Rattle.std.proofs.Common.{◌≡◌, ℕ, zero, suc, ◌<◌, List, [], Bool, true, refl, sym, ap, subst, ◌∙◌}
-use Rattle.ftl0_job.specs.declared.work.Work.TheVariants as work
+use Rattle.ftl0_client_job.specs.declared.work.Work.TheVariants as work
 use Rattle.ftl0_client.specs.Client as client
 use Rattle.air_world.proofs.Names.{same_Some, most_tasks, task_count, Work, new_directory, new_download, new_upload, Party, to_client_delivered, alike-itself, Changes, ClientDoes, ClientEvent, WorldStep, broken, ClientPart, asking, asking_file, next_upload, part_with, with_current, IsAllowed, Event, ask_download, ask_list, ask_resume, ask_upload, break_client, cut_client, cut_server, tick_client, tick_server, to_client, to_server, SoundLaw, Sound, StationLaws, PartyAt, World, counted, with_party}
 use Rattle.air_world.proofs.FirstLemmas.{first-sound}

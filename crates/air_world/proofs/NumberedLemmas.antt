@@ -3,7 +3,7 @@ use Rattle.std.proofs.Common.{◌≡◌, ℕ, List, length, ap, sym, ◌∙◌, 
 use Rattle.client_notes.specs.declared.progress.Progress.TheVariants as progress
 use Rattle.client_notes.specs.declared.answers.Noted.{Noted}
 use Rattle.client_notes.specs.declared.answers.Noted.TheVariants as noted
-use Rattle.ftl0_job.specs.declared.work.Work.TheVariants as work
+use Rattle.ftl0_client_job.specs.declared.work.Work.TheVariants as work
 use Rattle.air_world.proofs.Names.{slice_get, same_Some, noted_by, Progress, Work, Attempt, IsFileOf, Party, AsksUpload, Grants, ServerSide, one-placed, HasNumber, IsGranted, IsNumbered, IsTaskFor, acked-task, later-number, task-file, AreAcknowledged, AreNumbered, AreGrantedOnce, IsParty, Sound, PartyAt, World}
 
 -- a session of this attempt of the client, which is one to send this task's file for the first time, gave the number

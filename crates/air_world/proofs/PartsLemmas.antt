@@ -1,7 +1,7 @@
 -- A sound world has all parts, and what is promised of uploads and downloads holds in it.
 use Rattle.std.proofs.Common.{◌≡◌, ℕ, refl, ap, sym, ◌∙◌, subst, Option, None, Some}
-use Rattle.ftl0_job.specs.declared.ending.Outcome.TheVariants as outcome
-use Rattle.ftl0_job.specs.declared.work.Work.TheVariants as work
+use Rattle.ftl0_client_job.specs.declared.ending.Outcome.TheVariants as outcome
+use Rattle.ftl0_client_job.specs.declared.work.Work.TheVariants as work
 use Rattle.air_world.proofs.Names.{slice_get, same_Some, fault_code, HasNoFault, HasNoFront, new_upload, Attempted, outcome_of, outcome_by, Attempt, IsAnswered, IsAnsweredBy, IsAttempt, Has, EachSide, IsLinkOf, Party, newest, Grants, Offers, ServerSide, each-at, each-weaker, has-at, one-placed, some-from, HasFetched, HasNumber, IsGrantKept, IsOfferKept, got, IsWork, each-side, side-at, HasWhole, HeadlineIn, Offered, AreGranted, AreInState, AreNumbered, DoNumbersFit, DoOctetsFit, EachParty, HasParts, IsGiven, OfCurrent, IsParty, Sound, PartyAt, World}
 use Rattle.air_world.proofs.NumberedLemmas.{IsTaskGrant, are-acknowledged, are-numbered, same-grant, task-grant}
 use Rattle.air_world.proofs.ReceivesLemmas.{receives-file, session-of}

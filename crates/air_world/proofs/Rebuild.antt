@@ -1,7 +1,7 @@
 -- A world that the server's event made of a sound one is sound where the server, its places, its store and each client's
 -- attempts and facts are as they should be.
 use Rattle.std.proofs.Common.{◌≡◌, ℕ, ◌≤◌, List, Option, None, Some, length, refl, sym, ap, subst, ◌∙◌}
-use Rattle.ftl0_job.specs.declared.work.Work.TheVariants as work
+use Rattle.ftl0_client_job.specs.declared.work.Work.TheVariants as work
 use Rattle.ftl0_client.specs.Laws as client
 use Rattle.air_world.proofs.Names.{AllByRecursion, same_Some, IsCall, AreComplete, Work, Client, AttemptStands, Attempt, AreAttempts, Calls, IsBetween, Asked, EachAttempt, IsFileOf, IsLinkOf, Party, newest, all-at, all-by, each-weaker, IsGoodFile, HasFacts, IsSoundStore, AreTasks, IsWork, StandsBy, tasks-lists, AreGrantedOnce, AreStationsOf, IsParty, Sound, PartyAt, World}
 use Rattle.air_world.proofs.ClientsStay.{ClientsStay, stay-each, stay-link, stay-newest}

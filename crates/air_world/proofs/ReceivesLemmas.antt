@@ -2,10 +2,10 @@
 use Rattle.std.proofs.Common.{◌≡◌, ◌⊎◌, ℕ, zero, suc, ◌+◌, ◌≤◌, List, [], ◌++◌, length, take, drop, refl, ap, sym, ◌∙◌}
 use Rattle.std.proofs.Common.{subst, arith, true, Some, inl, inr}
 use Rattle.ftl0_server.specs.Entries as session
-use Rattle.ftl0_job.specs.declared.work.Work.TheVariants as work
-use Rattle.air_files.specs.Dialogue.{Serves}
-use Rattle.air_files.specs.UploadDialogue.{AnsweredFirst, GoesOnWith, IsOfferedBy, IsReceivingState, Receiving}
-use Rattle.air_files.specs.UploadDialogue.{ServesUpload, ended, receives, refused, unasked}
+use Rattle.ftl0_client_job.specs.declared.work.Work.TheVariants as work
+use Rattle.air_world.specs.Files.Dialogue.{Serves}
+use Rattle.air_world.specs.Files.UploadDialogue.{AnsweredFirst, GoesOnWith, IsOfferedBy, IsReceivingState, Receiving}
+use Rattle.air_world.specs.Files.UploadDialogue.{ServesUpload, ended, receives, refused, unasked}
 use Rattle.air_world.proofs.Names.{AllByRecursion, length-take-le, take-append-drop, IsFront, State, command, receiving, new_upload, Attempt, IsAttempt, IsAnsweredBy, Has, IsFileOf, Party, AsksUpload, Grants, octets_come, said_behind_server, IsSession, ServerSide, each-at, one-placed, GoesOnWithTask, HasNumber, Receives, IsWork, side-at, AreNumbered, ReceivesFile, IsParty, Sound, PartyAt, World}
 use Rattle.air_world.proofs.NumberedLemmas.{same-grant, task-grant}
 

@@ -5,7 +5,7 @@ use Rattle.ftl0_session.specs.Downloads.Laws.{DueStaysLaw, ListsStayLaw}
 use Rattle.ftl0_session.specs.Downloads.Sending.{due_packet, is_due}
 use Rattle.ftl0_session.specs.Uploads.Failures.{read_fails}
 use Rattle.ftl0_server.specs.Server.{IsSilent, sends_by}
-use Rattle.server_laws.specs.Steps as server
+use Rattle.ftl0_server.specs.StepLaws.Steps as server
 use Rattle.air_world.specs.Sound.{GrantedAt}
 use Rattle.air_world.proofs.Names.{option_map, Refusal, FollowsLaw, after, drop_entry, Store, State, download_part, in_session, next_due, Server, sends_of_places, PlacesSend, Slot, connected, free, leaving, places_next, Party, drop-keeps, drop-sound, facts-removed, RemovalLaw, without_entry, ArePlaces, AreStationsOf, IsParty, PartyAt, World}
 

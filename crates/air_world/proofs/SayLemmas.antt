@@ -3,7 +3,7 @@ use Rattle.std.proofs.Common.{◌≡◌, ◌⊎◌, ℕ, ◌^◌, ◌<◌, ◌�
 use Rattle.std.proofs.Common.{ap, ◌∙◌, subst, arith}
 use Rattle.ftl0_packets.specs.Layout.{Fits, Item, PacketValue, ul_go_resp, upload_cmd}
 use Rattle.ftl0_server.specs.Entries as session
-use Rattle.ftl0_job.specs.declared.work.Work.TheVariants as work
+use Rattle.ftl0_client_job.specs.declared.work.Work.TheVariants as work
 use Rattle.ftl0_client.specs.Client.{ClientEvent, hears, ticks}
 use Rattle.air_world.proofs.Names.{length, slice_get, AllByRecursion, option_and_then, option_map, cases_lt, same_Some, SessionEntry, IsNotBegun, Upload, new_upload, Work, asks, Attempt, IsAnswered, IsAnsweredBy, IsAttempt, MaySay, MaySayAt, WorkFits, OneIs, Asked, IsFileOf, Party, newest, upload_of, IsAnswer, ServerSide, all-at, GoesOnWithTask, IsGranted, IsWork, StandsBy, IsGoodFile, IsParty, Sound, PartyAt, World}
 

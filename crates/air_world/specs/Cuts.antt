@@ -3,7 +3,7 @@
 use Rattle.std.specs.Prelude.{◌≡◌, ℕ, ◌≤◌, List, [], ◌∷◌, ◌++◌, length, take, map, Bool, true, false}
 use Rattle.file_store.specs.Command.{Command}
 use Rattle.file_store.specs.OnDisk.{after_first}
-use Rattle.node.specs.Events.{NodeEvent}
+use Rattle.turn_loop.specs.Events.{NodeEvent}
 use Rattle.ftl0_server.specs.Server.{new_server}
 use Rattle.ftl0_server.specs.ServerStep as server
 use Rattle.client_notes.specs.Command.{NotesCommand}
@@ -13,7 +13,7 @@ use Rattle.ftl0_client.specs.Client.{Client, new_client}
 use Rattle.ftl0_client.specs.ClientStep as client
 use Rattle.air_world.specs.Events.{ClientPart, ClientTakes, IsPartOf, ServerTakes}
 use Rattle.air_world.specs.Lawful.{IsAllowed}
-use Rattle.air_attempt.specs.Party.{Party, sessions_over}
+use Rattle.air_world.specs.Attempts.Party.{Party, sessions_over}
 use Rattle.air_world.specs.Schedule.{Event, IsSchedule, Schedule, break_client, cut_client, cut_server, tick_server}
 use Rattle.air_world.specs.Schedule.{to_server}
 use Rattle.air_world.specs.Step.{ClientGoes, ServerGoes, client_started, with_asked}

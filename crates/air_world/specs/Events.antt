@@ -1,27 +1,27 @@
 -- Which station takes part in an event, and what comes to it.
 use Rattle.std.specs.Prelude.{◌≡◌, ℕ, ◌+◌, List, [], ◌∷◌, length, Some}
 use Rattle.ax25_link.specs.Air.{IsAt, Transmission}
-use Rattle.node.specs.Events.{NodeEvent, hears, ticks}
+use Rattle.turn_loop.specs.Events.{NodeEvent, hears, ticks}
 use Rattle.client_notes.specs.Answers.{fresh_task}
 use Rattle.client_notes.specs.Command.{NotesCommand}
 use Rattle.client_notes.specs.Notes.{Task, task_count, task_of}
-use Rattle.ftl0_job.specs.Directory.{new_directory}
-use Rattle.ftl0_job.specs.Download.{new_download}
-use Rattle.ftl0_job.specs.Table.{new_job}
-use Rattle.ftl0_job.specs.Upload.{new_upload}
-use Rattle.ftl0_job.specs.declared.work.Work.{Work}
-use Rattle.ftl0_job.specs.declared.work.Work.TheVariants as work
+use Rattle.ftl0_client_job.specs.Directory.{new_directory}
+use Rattle.ftl0_client_job.specs.Download.{new_download}
+use Rattle.ftl0_client_job.specs.Table.{new_job}
+use Rattle.ftl0_client_job.specs.Upload.{new_upload}
+use Rattle.ftl0_client_job.specs.declared.work.Work.{Work}
+use Rattle.ftl0_client_job.specs.declared.work.Work.TheVariants as work
 use Rattle.ftl0_client.specs.Client as client
 use Rattle.ftl0_client.specs.Client.{ClientEvent, asks}
 use Rattle.sha2.specs.Sha256.{sha256}
-use Rattle.air_attempt.specs.Attempt.{Attempt}
+use Rattle.air_world.specs.Attempts.Attempt.{Attempt}
 use Rattle.air_world.specs.Lawful.{last_unfinished}
-use Rattle.air_attempt.specs.Lists.{Placed}
-use Rattle.air_attempt.specs.Party.{Asked, IsFileOf, Party, newest, to_client_delivered, to_server_delivered}
-use Rattle.air_attempt.specs.Party.{with_newest}
+use Rattle.air_world.specs.Attempts.Lists.{Placed}
+use Rattle.air_world.specs.Attempts.Party.{Asked, IsFileOf, Party, newest, to_client_delivered, to_server_delivered}
+use Rattle.air_world.specs.Attempts.Party.{with_newest}
 use Rattle.air_world.specs.Schedule.{Event, ask_download, ask_list, ask_resume, ask_upload, tick_client, tick_server}
 use Rattle.air_world.specs.Schedule.{to_client, to_server}
-use Rattle.air_files.specs.Uploads.{upload_file, upload_name}
+use Rattle.air_world.specs.Files.Uploads.{upload_file, upload_name}
 use Rattle.air_world.specs.World.{PartyAt, World, next_moment, with_party}
 
 -- the transmission at this place of those that these are in the client's current attempt

@@ -1,17 +1,17 @@
 -- What is promised of uploads and downloads, whatever the air and the power do.
 use Rattle.std.specs.Prelude.{◌≡◌, ℕ, slice_get, Some}
-use Rattle.file_entries.specs.Follows.{KeepsEntries}
+use Rattle.file_store_model.specs.Follows.{KeepsEntries}
 use Rattle.file_store.specs.Store.{Store}
 use Rattle.ftl0_session.specs.Downloads.Table.{file_of}
 use Rattle.client_notes.specs.Notes.{got_of}
 use Rattle.ftl0_client.specs.Attempt.Attempted.{outcome_of}
 use Rattle.ftl0_client.specs.Outcome.TheVariants as outcome
 use Rattle.ftl0_client.specs.Outcomes.{outcome_by}
-use Rattle.air_attempt.specs.Attempt.{Attempt}
+use Rattle.air_world.specs.Attempts.Attempt.{Attempt}
 use Rattle.air_world.specs.Offered.{Offered}
-use Rattle.air_files.specs.Facts.{IsOfferKept}
-use Rattle.air_files.specs.Kept.{HoldsAck, HoldsTo, IsTaskKept, WhereStands}
-use Rattle.air_attempt.specs.Party.{Party}
+use Rattle.air_world.specs.Files.Facts.{IsOfferKept}
+use Rattle.air_world.specs.Files.Kept.{HoldsAck, HoldsTo, IsTaskKept, WhereStands}
+use Rattle.air_world.specs.Attempts.Party.{Party}
 use Rattle.air_world.specs.World.{PartyAt, World}
 
 -- the file of this number is complete, and the octets that the client has got of it are all of them

@@ -7,9 +7,9 @@ use Rattle.client_notes.specs.Command.{is_going}
 use Rattle.client_notes.specs.Limits.{most_tasks}
 use Rattle.client_notes.specs.Notes.{Lists, task_count}
 use Rattle.ftl0_client.specs.Outcomes.{is_under_way}
-use Rattle.air_attempt.specs.Attempt.{Attempt}
-use Rattle.air_attempt.specs.Lists.{Placed}
-use Rattle.air_attempt.specs.Party.{Party, newest}
+use Rattle.air_world.specs.Attempts.Attempt.{Attempt}
+use Rattle.air_world.specs.Attempts.Lists.{Placed}
+use Rattle.air_world.specs.Attempts.Party.{Party, newest}
 use Rattle.air_world.specs.Schedule.{Event, IsInRange, ask_download, ask_list, ask_resume, ask_upload, break_client}
 use Rattle.air_world.specs.Schedule.{cut_client, cut_server, tick_client, tick_server, to_client, to_server}
 use Rattle.air_world.specs.World.{PartyAt, World}

@@ -1,23 +1,23 @@
 -- Laws of worlds, over every lawful schedule.
 use Rattle.std.specs.Prelude.{◌≡◌, ◌≢◌, ℕ, ◌≤◌, List, [], ◌∷◌, length, false, true, Some, ⊤}
 use Rattle.std.specs.List.{AllByRecursion}
-use Rattle.file_entries.specs.Follows.{Follows}
+use Rattle.file_store_model.specs.Follows.{Follows}
 use Rattle.file_store.specs.Command.{DropsNothing, after, drop_entry}
 use Rattle.file_store.specs.IsStore.{IsStore}
 use Rattle.file_store.specs.OnDisk.{after_first}
 use Rattle.file_store.specs.Store.{Entry, Store, entry_of, partial}
 use Rattle.ftl0_session.specs.Table.{receiving}
-use Rattle.node.specs.Events.{NodeEvent}
+use Rattle.turn_loop.specs.Events.{NodeEvent}
 use Rattle.client_notes.specs.Several as notes
 use Rattle.air_world.specs.Cuts.{Happens, IsRun, WorldStep, client_commands, server_commands}
 use Rattle.air_world.specs.Events.{ClientPart, ClientTakes, ServerTakes}
-use Rattle.air_files.specs.Facts.{IsOfferKept}
-use Rattle.air_files.specs.SoundStore.{NoneGone}
+use Rattle.air_world.specs.Files.Facts.{IsOfferKept}
+use Rattle.air_world.specs.Files.SoundStore.{NoneGone}
 use Rattle.air_world.specs.Headline.{HeadlineIn, HeadlineStays}
 use Rattle.air_world.specs.Lawful.{IsAllowed}
 use Rattle.air_world.specs.Offered.{Offered}
 use Rattle.air_world.specs.Parts.{HasParts}
-use Rattle.air_attempt.specs.Party.{EachSide, Party}
+use Rattle.air_world.specs.Attempts.Party.{EachSide, Party}
 use Rattle.air_world.specs.Schedule.{Event, IsNoCut, IsSchedule, Schedule}
 use Rattle.air_world.specs.Sound.{Sound}
 use Rattle.air_world.specs.World.{PartyAt, World, first_world, store_blocks, with_party}

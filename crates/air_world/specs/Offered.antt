@@ -1,9 +1,9 @@
 -- Which offers were made in the world (FTL0 1990, uploading).
 use Rattle.std.specs.Prelude.{◌≡◌, ℕ, slice_get, Some}
-use Rattle.air_attempt.specs.Attempt.{Attempt}
-use Rattle.air_attempt.specs.Party.{Party}
-use Rattle.air_attempt.specs.Said.{Offers}
-use Rattle.air_attempt.specs.Sides.{ServerSide}
+use Rattle.air_world.specs.Attempts.Attempt.{Attempt}
+use Rattle.air_world.specs.Attempts.Party.{Party}
+use Rattle.air_world.specs.Attempts.Said.{Offers}
+use Rattle.air_world.specs.Attempts.Sides.{ServerSide}
 use Rattle.air_world.specs.World.{PartyAt, World}
 
 -- A session of a client of the world said UL_GO_RESP with this number and offset: it is among the packets that the

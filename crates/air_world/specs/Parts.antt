@@ -11,17 +11,17 @@ use Rattle.ftl0_session.specs.Downloads.Needs.{AreComplete}
 use Rattle.ftl0_session.specs.Table.{receiving}
 use Rattle.ftl0_client.specs.Outcome.TheVariants as outcome
 use Rattle.ftl0_client.specs.Outcomes.{outcome_by}
-use Rattle.air_attempt.specs.Attempt.{Attempt, client_station, server_station}
-use Rattle.air_files.specs.Facts.{AreFirstIfAny, HasNumber, IsBegun, IsFetching, IsOfferKept, got}
+use Rattle.air_world.specs.Attempts.Attempt.{Attempt, client_station, server_station}
+use Rattle.air_world.specs.Files.Facts.{AreFirstIfAny, HasNumber, IsBegun, IsFetching, IsOfferKept, got}
 use Rattle.air_world.specs.Offered.{Offered}
-use Rattle.air_files.specs.SoundStore.{IsSoundStore}
-use Rattle.air_attempt.specs.Party.{IsLinkOf}
-use Rattle.air_files.specs.Kept.{HoldsAck, IsTaskAt, IsTaskKept, WhereStands}
-use Rattle.air_attempt.specs.Party.{EachAttempt, EachSide, IsFileOf, Party, newest}
-use Rattle.air_attempt.specs.Said.{AsksUpload, Grants, SaysComplete, said_behind_server}
-use Rattle.air_attempt.specs.Sides.{IsJob, IsSession, ServerSide}
+use Rattle.air_world.specs.Files.SoundStore.{IsSoundStore}
+use Rattle.air_world.specs.Attempts.Party.{IsLinkOf}
+use Rattle.air_world.specs.Files.Kept.{HoldsAck, IsTaskAt, IsTaskKept, WhereStands}
+use Rattle.air_world.specs.Attempts.Party.{EachAttempt, EachSide, IsFileOf, Party, newest}
+use Rattle.air_world.specs.Attempts.Said.{AsksUpload, Grants, SaysComplete, said_behind_server}
+use Rattle.air_world.specs.Attempts.Sides.{IsJob, IsSession, ServerSide}
 use Rattle.air_world.specs.Sound.{AreGrantedOnce, ArePlaces}
-use Rattle.air_files.specs.UploadDialogue.{GoesOnWith}
+use Rattle.air_world.specs.Files.UploadDialogue.{GoesOnWith}
 use Rattle.air_world.specs.World.{PartyAt, World}
 
 -- so it is of each client

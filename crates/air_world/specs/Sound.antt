@@ -6,18 +6,18 @@ use Rattle.ax25_link.specs.declared.state.LinkState.TheVariants.{Up}
 use Rattle.ax25_link.specs.Window.{IsWindow}
 use Rattle.ftl0_session.specs.Downloads.Needs.{AreComplete}
 use Rattle.ftl0_server.specs.Connection.Connected.{Connected, caller_of}
-use Rattle.server_laws.specs.Steps as server
+use Rattle.ftl0_server.specs.StepLaws.Steps as server
 use Rattle.ftl0_server.specs.Slots.{connected, leaving}
 use Rattle.ftl0_client.specs.Laws as client
-use Rattle.air_attempt.specs.Attempt.{Attempt, IsAttempt}
-use Rattle.air_files.specs.Facts.{HasFacts}
-use Rattle.air_attempt.specs.Party.{EachAttempt, OnlyNewestUp, Party, newest}
-use Rattle.air_attempt.specs.Party.{newest_side, IsLinkOf}
-use Rattle.air_files.specs.SoundStore.{IsSoundStore}
-use Rattle.air_files.specs.Tasks.{AreTasks, IsWork, StandsBy}
-use Rattle.air_attempt.specs.Said.{Grants}
-use Rattle.air_attempt.specs.Sides.{ServerSide}
-use Rattle.air_files.specs.Uploads.{IsGoodFile}
+use Rattle.air_world.specs.Attempts.Attempt.{Attempt, IsAttempt}
+use Rattle.air_world.specs.Files.Facts.{HasFacts}
+use Rattle.air_world.specs.Attempts.Party.{EachAttempt, OnlyNewestUp, Party, newest}
+use Rattle.air_world.specs.Attempts.Party.{newest_side, IsLinkOf}
+use Rattle.air_world.specs.Files.SoundStore.{IsSoundStore}
+use Rattle.air_world.specs.Files.Tasks.{AreTasks, IsWork, StandsBy}
+use Rattle.air_world.specs.Attempts.Said.{Grants}
+use Rattle.air_world.specs.Attempts.Sides.{ServerSide}
+use Rattle.air_world.specs.Files.Uploads.{IsGoodFile}
 use Rattle.air_world.specs.World.{PartyAt, World}
 
 -- The stations: at most eight clients, all calls are calls and no two alike, and each client's server and window are

@@ -1,13 +1,14 @@
 -- What is known of the events of both stations, by the laws of one attempt, of files, and of a server and a client.
-use Rattle.client_laws.specs.Steps.{StepLaw}
+use Rattle.ftl0_client.specs.StepLaws.Steps.{StepLaw}
 use Rattle.ftl0_client.specs.Attempt.Laws.{CallingLaw, StandsLaw}
 use Rattle.ftl0_client.specs.Entries.{HearingLaw, TickingLaw}
 use Rattle.ftl0_client.specs.Laws.{SomeStepLaw as SomeClientStep}
 use Rattle.ftl0_server.specs.Entries.{HearingLaw as EntriesLaw}
-use Rattle.server_laws.specs.Steps.{SomeStepLaw as SomeServerStep}
-use Rattle.air_attempt.specs.Laws.{ClientLaw, CurrentLaw, FrontLaw, HeardFrontLaw, HeardLaw, LeftLaw, ServerHearsLaw}
-use Rattle.air_attempt.specs.Laws.{ServerTicksLaw}
-use Rattle.air_files.specs.Laws.{BeginLaw, JobLaw, JobTasksLaw, SessionLaw, StayLaw}
+use Rattle.ftl0_server.specs.StepLaws.Steps.{SomeStepLaw as SomeServerStep}
+use Rattle.air_world.specs.Attempts.Laws.{ClientLaw, CurrentLaw, FrontLaw, HeardFrontLaw, HeardLaw, LeftLaw}
+use Rattle.air_world.specs.Attempts.Laws.{ServerHearsLaw}
+use Rattle.air_world.specs.Attempts.Laws.{ServerTicksLaw}
+use Rattle.air_world.specs.Files.Laws.{BeginLaw, JobLaw, JobTasksLaw, SessionLaw, StayLaw}
 
 -- what a session makes of a frame that it hears
 pub record SessionLaws : Type 0 where

@@ -3,15 +3,15 @@
 use Rattle.std.specs.Prelude.{◌≡◌, ℕ, List, [], ◌++◌, map, if◌then◌else◌}
 use Rattle.ax25_frames.specs.FrameText.{FrameValue}
 use Rattle.ftl0_session.specs.Uploads.Session.{is_same_call}
-use Rattle.node.specs.Events.{NodeEvent, hears, ticks}
+use Rattle.turn_loop.specs.Events.{NodeEvent, hears, ticks}
 use Rattle.ftl0_server.specs.ServerStep.{ServerStep, Stepped}
 use Rattle.client_notes.specs.Command.{NotesCommand}
 use Rattle.client_notes.specs.Laws.{after_all}
 use Rattle.ftl0_client.specs.Client.{Client}
 use Rattle.ftl0_client.specs.ClientStep.{ClientStep}
 use Rattle.air_world.specs.Events.{ClientPart}
-use Rattle.air_attempt.specs.Party.{Party}
-use Rattle.air_attempt.specs.Transfers.{ClientDid, ServerDid, after_event, after_hearing, after_tick}
+use Rattle.air_world.specs.Attempts.Party.{Party}
+use Rattle.air_world.specs.Attempts.Transfers.{ClientDid, ServerDid, after_event, after_hearing, after_tick}
 use Rattle.air_world.specs.World.{World, counted, next_moment, with_party}
 
 -- a client after the server heard this frame: only the one whose frame it is has changed

@@ -4,7 +4,7 @@ use Rattle.px_base.specs.CallSign.{CallSign}
 use Rattle.ax25_link.specs.Window.{window_of}
 use Rattle.file_store.specs.Store.{empty_store}
 use Rattle.ftl0_server.specs.Server.{Server, new_server}
-use Rattle.air_attempt.specs.Party.{Asked, Party, first_party}
+use Rattle.air_world.specs.Attempts.Party.{Asked, Party, first_party}
 use Rattle.air_world.specs.Schedule.{Schedule}
 
 -- The server; its clients, each at its place; how many events there were; the uploads that were asked, in order; and

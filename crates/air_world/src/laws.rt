@@ -4,9 +4,9 @@ ghost use Rattle.air_world.specs.Laws.{CutsLaw, ExistenceLaw, NoCutsLaw, PartsLa
 ghost use Rattle.air_world.specs.Laws.{ScheduleLaw, SoundLaw, StoresLaw};
 ghost use Rattle.air_world.specs.StationLaws.{StationLaws};
 
-use air_attempt::laws as attempts;
-use air_files::laws as files;
-use file_entries::laws::follows_law;
+use crate::attempts::laws as attempts;
+use crate::files::laws as files;
+use file_store_model::laws::follows_law;
 use ftl0_client::attempt::laws::stands_law;
 use ftl0_client::laws as client;
 use ftl0_session::downloads::laws::stays_law;
@@ -29,13 +29,13 @@ fn station_laws()
     files::job_tasks_law();
     files::stay_law();
     files::begin_law();
-    server_laws::hearing_law();
-    client_laws::step_law();
-    client_laws::hearing_law();
-    client_laws::ticking_law();
+    ftl0_server::step_laws::hearing_law();
+    ftl0_client::step_laws::step_law();
+    ftl0_client::step_laws::hearing_law();
+    ftl0_client::step_laws::ticking_law();
     stands_law();
     client::some_step_law();
-    server_laws::some_step_law();
+    ftl0_server::step_laws::some_step_law();
 }
 
 /// The first world of each schedule is sound, and each event that may come keeps a world sound: frames that are lost,
@@ -69,7 +69,7 @@ pub fn existence_law()
     ensures { ExistenceLaw }
 {
     client::some_step_law();
-    server_laws::some_step_law();
+    ftl0_server::step_laws::some_step_law();
 }
 
 /// What is promised holds also while the next event of a sound world is under way, in all that the power may leave: of

@@ -3,4 +3,6 @@
 //! definitions, and the laws of them, are what the rehearsal is measured by.
 #![tactic(auto)]
 
+pub mod attempts;
+pub mod files;
 pub mod laws;

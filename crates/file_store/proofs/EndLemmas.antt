@@ -1,6 +1,6 @@
 -- The end of a file of which all octets came.
 use Rattle.std.proofs.Common.{◌≡◌, ◌==◌, ℕ, ◌+◌, ◌<◌, List, [], ◌∷◌, ◌++◌, length, replicate, Option, None, Some, refl, sym, ◌∙◌, ap, subst, arith, length-append}
-use Rattle.file_entries.specs.Command.{is_partial}
+use Rattle.file_store_model.specs.Command.{is_partial}
 use Rattle.file_store.proofs.Names.{IsTrue, is_none, is_some, not, length-replicate, option_map, eq-eqb, nat_tests, IsPlaced, outlined_entry, Placed, Seal, placed_of, is_partial as placed_partial, is_whole, holding_with, octets_in, seen, seen_entry, Passes, entry_seen, found_length, fault_code, AreAllowed, after_all, grown, is_allowed, is_good, last_grow, passes, with_more, octets_or_none, Entry, Holding, Store, entry_of, holding_of, octets_at, partial, AreAllowed-append, both-true, find-map-changed, last_grow-after, last_grow-allowed, Blocks, IsWhole, outlined_all, StoreState, placed_in, rest_in, store_in, IsWholeWaiting, come_of, ending}
 use Rattle.file_store.proofs.TokenLemmas.{file-under}
 

@@ -1,33 +1,33 @@
 -- The names of specs, and of the crates below, that proofs use, in one place.
-pub use Rattle.block_entries.proofs.Offered.{changed_is, changed_leaves, entry_seen, found_length, given_length, grows_allowed, kept_seals, kept_step, new_is_found, none_past, octets_written, outlined_found, outlined_grown, outlined_info, outlined_new, outlined_next, outlined_rules, outlined_sealed, placed_stands, room_for_commands, seal_step, seen_after, seen_allowed, seen_like, seen_may_grow, seen_put, seen_sealed, seen_store, stands_placed, without_is, without_leaves}
-pub use Rattle.block_entries.specs.Checking.{ChecksFile, HasFault, IsFaultCode, IsSealable}
-pub use Rattle.block_entries.specs.IsPlaced.{ArePlaced, IsPlaced, IsPlacedFile, KeepsSeals}
-pub use Rattle.block_entries.specs.KeptLaws.{after_placed, blocks_seen, drop_placed, grow_placed, rooms_files, seal_placed, sum_map}
-pub use Rattle.block_entries.specs.Outlined.{outlined, outlined_entry}
-pub use Rattle.block_entries.specs.Placed.{Placed, PlacedStore, Seal, new_placed, placed_of}
-pub use Rattle.block_entries.specs.PlacedCommand.{PlacedCommand, can_grow, is_partial, is_whole, seal_with, sealed, with_grown, with_new, with_sealed, without_file}
-pub use Rattle.block_entries.specs.PlacedFiles.{Becomes, ChangesRest, EntriesState, IsLowest, IsSealedIn, KeepsRests, PlacedFile, PlacedFiles, entries_of, file_of, lacks_octets, octets_or_none, placed_info, rest_of, rest_with, store_of}
-pub use Rattle.block_entries.specs.PlacedForm.{placed_form, placed_steps}
-pub use Rattle.block_entries.specs.PlacedLaws.{placed_seen}
-pub use Rattle.block_entries.specs.PlacedRecords.{IsWritable, placed_after, record_of_placed}
-pub use Rattle.block_entries.specs.Sealed.{Sealed, octets_given}
-pub use Rattle.block_entries.specs.Seen.{entry_with, holding_with, octets_in, seen, seen_entry, stamp_at, whole_block}
-pub use Rattle.block_entries.specs.TestLaws.{Grows, Passes, TakesSeal, passes_found}
+pub use Rattle.file_store_blocks.proofs.Offered.{changed_is, changed_leaves, entry_seen, found_length, given_length, grows_allowed, kept_seals, kept_step, new_is_found, none_past, octets_written, outlined_found, outlined_grown, outlined_info, outlined_new, outlined_next, outlined_rules, outlined_sealed, placed_stands, room_for_commands, seal_step, seen_after, seen_allowed, seen_like, seen_may_grow, seen_put, seen_sealed, seen_store, stands_placed, without_is, without_leaves}
+pub use Rattle.file_store_blocks.specs.Checking.{ChecksFile, HasFault, IsFaultCode, IsSealable}
+pub use Rattle.file_store_blocks.specs.IsPlaced.{ArePlaced, IsPlaced, IsPlacedFile, KeepsSeals}
+pub use Rattle.file_store_blocks.specs.KeptLaws.{after_placed, blocks_seen, drop_placed, grow_placed, rooms_files, seal_placed, sum_map}
+pub use Rattle.file_store_blocks.specs.Outlined.{outlined, outlined_entry}
+pub use Rattle.file_store_blocks.specs.Placed.{Placed, PlacedStore, Seal, new_placed, placed_of}
+pub use Rattle.file_store_blocks.specs.PlacedCommand.{PlacedCommand, can_grow, is_partial, is_whole, seal_with, sealed, with_grown, with_new, with_sealed, without_file}
+pub use Rattle.file_store_blocks.specs.PlacedFiles.{Becomes, ChangesRest, EntriesState, IsLowest, IsSealedIn, KeepsRests, PlacedFile, PlacedFiles, entries_of, file_of, lacks_octets, octets_or_none, placed_info, rest_of, rest_with, store_of}
+pub use Rattle.file_store_blocks.specs.PlacedForm.{placed_form, placed_steps}
+pub use Rattle.file_store_blocks.specs.PlacedLaws.{placed_seen}
+pub use Rattle.file_store_blocks.specs.PlacedRecords.{IsWritable, placed_after, record_of_placed}
+pub use Rattle.file_store_blocks.specs.Sealed.{Sealed, octets_given}
+pub use Rattle.file_store_blocks.specs.Seen.{entry_with, holding_with, octets_in, seen, seen_entry, stamp_at, whole_block}
+pub use Rattle.file_store_blocks.specs.TestLaws.{Grows, Passes, TakesSeal, passes_found}
 pub use Rattle.disk_model.proofs.Offered.{puts_among, puts_among_then, puts_none, reads_same, told_weaker}
 pub use Rattle.disk_model.specs.AtDisk.{AtDisk, at}
 pub use Rattle.disk_model.specs.Disk.{FillsRoom, IsTold}
 pub use Rattle.disk_model.specs.Runs.{Leaves, Reads, TellsAlike, images_now, one_if}
 pub use Rattle.disk_model.specs.declared.disk.Disk.{Ghosts}
 pub use Rattle.disk_model.specs.declared.disk.DiskFault.{DiskFault}
-pub use Rattle.file_entries.proofs.Offered.{AreAllowed-append, Told, after-other, after_all-append, begin-KeepsComplete, both-true, find-append_found, find-map-changed, find-map-changed_other, find-push, find_past, found-fits, found-number, found-passes, good-partial, grow-allowed, grows-after, grows-allowed, has_number, last_grow-after, last_grow-allowed, never-both, partial-held, room-partial, told, told-held}
-pub use Rattle.file_entries.specs.Command.{AreAllowed, Command, DropsNothing, MayBegin, after, after_all, begin, can_begin, changed, drop_entry, grow, grown, grows, has_room, is_allowed, is_good, last_grow, passes, seal, unfilled_block, whole_grows, with_holding, with_more}
-pub use Rattle.file_entries.specs.Faults.{fault_code}
-pub use Rattle.file_entries.specs.Headers.{IsHeaderOf, IsWholeHeader, body_octets, header_items, parts_or_none}
-pub use Rattle.file_entries.specs.Info.{IsCompleteIn, IsNextComplete, info_of, is_complete}
-pub use Rattle.file_entries.specs.IsStore.{IsStore}
-pub use Rattle.file_entries.specs.Kept.{KeepsComplete}
-pub use Rattle.file_entries.specs.Limits.{last_next, longest_file, most_entries}
-pub use Rattle.file_entries.specs.Store.{Entry, Holding, Store, blocks_for, blocks_of, complete, entry_count, entry_of, free_blocks, holding_of, new_entry, octets_at, octets_of, partial, store_from}
+pub use Rattle.file_store_model.proofs.Offered.{AreAllowed-append, Told, after-other, after_all-append, begin-KeepsComplete, both-true, find-append_found, find-map-changed, find-map-changed_other, find-push, find_past, found-fits, found-number, found-passes, good-partial, grow-allowed, grows-after, grows-allowed, has_number, last_grow-after, last_grow-allowed, never-both, partial-held, room-partial, told, told-held}
+pub use Rattle.file_store_model.specs.Command.{AreAllowed, Command, DropsNothing, MayBegin, after, after_all, begin, can_begin, changed, drop_entry, grow, grown, grows, has_room, is_allowed, is_good, last_grow, passes, seal, unfilled_block, whole_grows, with_holding, with_more}
+pub use Rattle.file_store_model.specs.Faults.{fault_code}
+pub use Rattle.file_store_model.specs.Headers.{IsHeaderOf, IsWholeHeader, body_octets, header_items, parts_or_none}
+pub use Rattle.file_store_model.specs.Info.{IsCompleteIn, IsNextComplete, info_of, is_complete}
+pub use Rattle.file_store_model.specs.IsStore.{IsStore}
+pub use Rattle.file_store_model.specs.Kept.{KeepsComplete}
+pub use Rattle.file_store_model.specs.Limits.{last_next, longest_file, most_entries}
+pub use Rattle.file_store_model.specs.Store.{Entry, Holding, Store, blocks_for, blocks_of, complete, entry_count, entry_of, free_blocks, holding_of, new_entry, octets_at, octets_of, partial, store_from}
 pub use Rattle.file_journal.proofs.Offered.{among_does, among_same, among_then, does_longer, does_none, does_same, does_then, first_all, first_then, good_header, held_kept, images_here, knew, knows_on, makes_first, makes_within, reads_only, same_on, stands_through}
 pub use Rattle.file_journal.specs.AmongReads.{among_reads}
 pub use Rattle.file_journal.specs.Kept.{HasRoomFor, IsKept, KeptOn, StandsAt, kept_on}

@@ -1,6 +1,6 @@
 -- A store on its disk, and the same as far as memory tells.
 use Rattle.std.proofs.Common.{◌≡◌, List, [], ◌∷◌, ℕ, Option, None, Some, inl, inr, refl, sym, ◌∙◌, ap, subst}
-use Rattle.file_entries.specs.Like.{AreLike, IsAsFar, IsStoreLike}
+use Rattle.file_store_model.specs.Like.{AreLike, IsAsFar, IsStoreLike}
 use Rattle.file_journal.specs.Position.{Position}
 use Rattle.file_store.proofs.Names.{IsTold, Ghosts, KeepsSeals, outlined, PlacedStore, store_of, placed_steps, seen, kept_seals, seen_like, seen_store, TellsAlike, StandsAt, blocks_on, knew, knows_on, IsStore, Entry, Holding, Store, complete, partial, IsKnown, IsReady, StandsOn, StoreState, placed_in, store_form, store_in, store_on}
 use Rattle.file_store.proofs.ZerosLemmas.{seen_zeros}

@@ -1,9 +1,9 @@
 -- What a change of the entries makes of what memory tells.
 use Rattle.std.proofs.Common.{◌≡◌, ℕ, ◌+◌, ◌≤◌, ◌<◌, Bool, not, [], ◌∷◌, length, replicate, nat_le, nat_lt, Option, None, Some, Result, Ok, Err, IsErr, OnOk, OnErr, inl, inr, refl, sym, ◌∙◌, ap, subst, arith}
 use Rattle.std.specs.Prelude.{◌&&◌}
-use Rattle.file_entries.specs.Bars.{Bars}
-use Rattle.file_entries.specs.declared.begin_bar.BeginBar.{BeginBar}
-use Rattle.file_entries.specs.declared.begin_bar.BeginBar.TheVariants.{TooLong, TooMany, NumbersGone, NoRoom}
+use Rattle.file_store_model.specs.Bars.{Bars}
+use Rattle.file_store_model.specs.declared.begin_bar.BeginBar.{BeginBar}
+use Rattle.file_store_model.specs.declared.begin_bar.BeginBar.TheVariants.{TooLong, TooMany, NumbersGone, NoRoom}
 use Rattle.file_store.specs.Refusals.{refusal_of_bar}
 use Rattle.file_store.specs.declared.change.EntriesChange.TheVariants as change
 use Rattle.file_store.proofs.Names.{IfErr, IfNone, IsErrAnd, IsTrue, is_some, and_parts, eqb-true, ltb-true, nat_tests, length-map, Ghosts, IsPlaced, blocks_seen, rooms_files, sum_map, outlined, outlined_entry, Placed, PlacedStore, Seal, can_grow, is_partial, EntriesState, IsLowest, KeepsRests, PlacedFiles, lacks_octets, store_of, seen, seen_entry, Grows, Passes, outlined_grown, MayBegin, after, after_all, grow, Entry, blocks_for, blocks_of, entry_count, free_blocks, both-true, Blocks, RefusesBegin, MakesOf, MayMake, waiting_in, Does, DoesTo, after_first, outlined_all, StandsOn, StoreState, placed_in, rest_in, store_in, FillsBlock, BeginRefusal}

@@ -1,6 +1,6 @@
 -- A complete entry stays through commands.
 use Rattle.std.proofs.Common.{◌≡◌, inl, inr, ℕ, zero, suc, List, [], ◌∷◌, length, subst, Some}
-use Rattle.file_entries.specs.Command.{is_partial}
+use Rattle.file_store_model.specs.Command.{is_partial}
 use Rattle.file_store.proofs.Names.{IsTrue, eqb_tells, AreAllowed, Command, after, begin, drop_entry, grow, has_room, is_allowed, is_good, seal, is_complete, Entry, Store, entry_of, after-other, find-append_found, found-passes, good-partial, grow-allowed, has_number, never-both, partial-held, room-partial, ReceiptLaw, after_first}
 
 -- a command that is allowed leaves a complete entry as it is

@@ -1,6 +1,6 @@
 -- How the parts of the end of a file come together.
 use Rattle.std.proofs.Common.{◌≡◌, ◌≢◌, inl, inr, ℕ, ◌+◌, ◌≤◌, Bool, true, false, List, [], ◌∷◌, ◌++◌, length, Option, None, Some, Result, Ok, Err, IsErr, OnOk, OnErr, refl, sym, ◌∙◌, ap, subst, arith, zero-add}
-use Rattle.block_entries.specs.declared.file_check.CheckedHeader.{CheckedHeader}
+use Rattle.file_store_blocks.specs.declared.file_check.CheckedHeader.{CheckedHeader}
 use Rattle.file_store.specs.declared.end.End.{End}
 use Rattle.file_store.specs.declared.end.End.TheVariants as end
 use Rattle.file_store.proofs.Names.{IfSome, IsSome, IsTrue, is_some, replicate, option_map, append-nil, ChecksFile, HasFault, IsFaultCode, IsSealable, IsPlaced, outlined, outlined_entry, Placed, PlacedStore, Seal, placed_of, is_partial, is_whole, sealed, with_sealed, without_file, Becomes, KeepsRests, PlacedFiles, octets_or_none, rest_of, store_of, octets_in, stamp_at, Passes, TakesSeal, changed_is, changed_leaves, outlined_found, without_is, without_leaves, at, IsTold, Ghosts, DiskFault, one_if, Reads, Blocks, blocks_on, reads_same, Command, after_all, drop_entry, grow, last_grow, seal, fault_code, IsCompleteIn, is_complete, Entry, Holding, Store, entry_of, EndsFile, EndsInOrder, IsSealedAt, LeavesOthers, KeepsOtherFiles, Does, DoesTo, outlined_all, IsKnown, IsReady, StandsOn, StoreState, placed_in, rest_in, store_in, store_on, Holds, IsWholeWaiting, Upload, come_of, ending, DoesAmongReads}

@@ -1,7 +1,7 @@
 -- A file that is sealed.
 use Rattle.std.proofs.Common.{◌≡◌, ℕ, List, [], ◌∷◌, ◌++◌, Option, None, Some, Ok, refl, sym, ◌∙◌, ap, arith}
-use Rattle.file_entries.specs.Stamp.{stamped}
-use Rattle.file_entries.specs.Command.{sealed}
+use Rattle.file_store_model.specs.Stamp.{stamped}
+use Rattle.file_store_model.specs.Command.{sealed}
 use Rattle.file_store.specs.declared.end.End.TheVariants as end
 use Rattle.file_store.proofs.Names.{is_some, option_map, Ghosts, blocks_on, told_weaker, fault_code, after, after_all, last_grow, seal, octets_or_none, Entry, Store, complete, entry_of, octets_at, partial, after_all-append, find-map-changed, EndsFile, IsKeptInEach, IsKeptOn, IsKnown, StoreState, rest_in, store_on, Holds, Upload, come_of, ending, entry_for, held_whole, kept_file, octets_come, sealing, upload_stamp}
 use Rattle.file_store.proofs.EndLemmas.{entry-then, under, under-on}

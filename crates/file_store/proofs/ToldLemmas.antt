@@ -1,6 +1,6 @@
 -- What is told of an entry, and an upload of it.
 use Rattle.std.proofs.Common.{◌≡◌, ℕ, ◌≤◌, false, [], length, Option, None, Some, refl, sym, ◌∙◌, ap, arith}
-use Rattle.file_entries.specs.declared.info.Info.{Info}
+use Rattle.file_store_model.specs.declared.info.Info.{Info}
 use Rattle.file_store.proofs.Names.{option_map, outlined, outlined_entry, Placed, PlacedStore, placed_of, placed_info, outlined_found, outlined_info, CallSign, longest_file, info_of, is_complete, IsStore, Entry, Holding, Store, complete, entry_of, octets_of, partial, found-fits, found-number, Told, StoreState, rest_in, store_in, HasEntry, Holds, Upload, entry_for, upload_from, upload_of}
 
 -- of each number the same is told by the placed files as by what memory tells of the entries

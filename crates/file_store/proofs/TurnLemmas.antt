@@ -1,9 +1,9 @@
 -- A change of the entries as a turn of the kept state: its record, and what that makes.
 use Rattle.std.proofs.Common.{◌≡◌, ◌+◌, ℕ, ◌≤◌, ◌==◌, Bool, true, false, List, [], length, nat_le, nat_lt, Option, None, Some, refl, sym, ◌∙◌, ap, subst, arith}
 use Rattle.std.specs.Prelude.{◌&&◌, if◌then◌else◌}
-use Rattle.block_entries.specs.PlacedCommand as placed
-use Rattle.block_entries.specs.PlacedCommand.{after}
-use Rattle.file_entries.specs.Command as file
+use Rattle.file_store_blocks.specs.PlacedCommand as placed
+use Rattle.file_store_blocks.specs.PlacedCommand.{after}
+use Rattle.file_store_model.specs.Command as file
 use Rattle.file_journal.specs.Steps.{HasPut, WritesTurn}
 use Rattle.file_store.specs.declared.change.EntriesChange.TheVariants as change
 use Rattle.file_store.proofs.Names.{IfSome, IsTrue, eq-eqb, nat_tests, IsSealable, IsPlaced, after_placed, blocks_seen, drop_placed, grow_placed, seal_placed, PlacedStore, placed_of, PlacedCommand, is_partial, seal_with, with_grown, with_sealed, EntriesState, PlacedFiles, octets_or_none, rest_of, store_of, placed_form, placed_steps, IsWritable, placed_after, record_of_placed, octets_in, seen, stamp_at, Grows, Passes, passes_found, grows_allowed, kept_step, octets_written, seal_step, seen_after, seen_allowed, seen_may_grow, seen_put, seen_sealed, MayBegin, can_begin, last_next, longest_file, most_entries, Store, blocks_for, blocks_of, both-true, Blocks, Record, LetsBy, MayMake, placed_by, turn_by, waiting_in, EntriesChange, CallSign}

@@ -1,6 +1,6 @@
 -- What the commands of one upload keep of the others, and what becomes of it.
 use Rattle.std.proofs.Common.{◌≡◌, ◌≢◌, ℕ, ◌+◌, ◌-◌, ◌*◌, ◌/◌, ◌≤◌, List, [], ◌∷◌, ◌++◌, length, take, drop, replicate, Option, None, Some, inl, inr, refl, sym, ◌∙◌, ap, subst, arith, length-append, length-drop}
-use Rattle.block_entries.specs.Placed.{has_number}
+use Rattle.file_store_blocks.specs.Placed.{has_number}
 use Rattle.file_store.proofs.Names.{find, option_and_then, option_map, eqb_tells, nat_tests, length-replicate, length-take-le, Ghosts, placed_of, KeepsRests, PlacedFile, PlacedFiles, entries_of, file_of, octets_or_none, rest_of, store_of, CallSign, Command, after, after_all, begin, grown, grows, IsStore, Store, entry_of, new_entry, partial, find-append_found, find-map-changed, find-push, find_past, grows-after, has_number as has_entry_number, ChangesEntry, KeepsOtherFiles, KeepsOthers, KeepsUploads, OnlyChanges, after_first, outlined_all, StandsOn, StoreState, rest_in, store_in, FillsBlock, FitsBytes, FitsWaiting, Holds, IsWholeWaiting, Upload, appended, appending, came, entry_for, new_upload, waiting, waiting_with, with_bytes}
 use Rattle.file_store.proofs.GrowsLemmas.{AreGrows, grows-are, outlined-grows}
 use Rattle.file_store.proofs.OnLemmas.{in_parked, stands_parked}

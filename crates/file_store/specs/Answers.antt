@@ -2,16 +2,16 @@
 use Rattle.std.specs.Prelude.{◌≡◌, ℕ, ◌+◌, ◌<◌, List, length, Bool, true, false, if◌then◌else◌, Option, None, Some}
 use Rattle.std.specs.Prelude.{Result, Ok, Err}
 use Rattle.disk_model.specs.declared.disk.Disk.{Ghosts}
-use Rattle.block_entries.specs.Checking.{IsFaultCode}
+use Rattle.file_store_blocks.specs.Checking.{IsFaultCode}
 use Rattle.px_base.specs.CallSign.{CallSign}
-use Rattle.file_entries.specs.Faults.{fault_code}
-use Rattle.file_entries.specs.Bars.{Bars}
-use Rattle.file_entries.specs.Command.{MayBegin}
-use Rattle.file_entries.specs.Info.{is_complete}
-use Rattle.file_entries.specs.Store.{Entry, Store, entry_of}
-use Rattle.file_entries.specs.declared.begin_bar.BeginBar.TheVariants as bar
-use Rattle.file_entries.specs.Command.{Command, last_grow}
-use Rattle.block_entries.specs.PlacedFiles.{octets_or_none}
+use Rattle.file_store_model.specs.Faults.{fault_code}
+use Rattle.file_store_model.specs.Bars.{Bars}
+use Rattle.file_store_model.specs.Command.{MayBegin}
+use Rattle.file_store_model.specs.Info.{is_complete}
+use Rattle.file_store_model.specs.Store.{Entry, Store, entry_of}
+use Rattle.file_store_model.specs.declared.begin_bar.BeginBar.TheVariants as bar
+use Rattle.file_store_model.specs.Command.{Command, last_grow}
+use Rattle.file_store_blocks.specs.PlacedFiles.{octets_or_none}
 use Rattle.disk_model.specs.Runs.{one_if}
 use Rattle.file_store.specs.State.{HasFailed, IsKnown, StoreState, rest_in, store_in, store_on}
 use Rattle.file_store.specs.Upload.{Upload, came, held_whole, octets_come, sealing}

@@ -3,12 +3,12 @@ use Rattle.std.proofs.Common.{◌≡◌, ℕ, ◌≤◌, List, [], ◌∷◌, Op
 use Rattle.std.specs.Prelude.{IfSome, find, sum_by}
 use Rattle.std.proofs.lemmas.Bool.Decides.{eqb_tells}
 use Rattle.std.proofs.lemmas.List.Sums.{sum_by-cons}
-use Rattle.block_entries.specs.Checking.{IsSealable}
-use Rattle.block_entries.specs.KeptLaws.{times_at, times_files}
-use Rattle.block_entries.specs.Placed.{Placed, Uses, has_number, placed_of}
-use Rattle.block_entries.specs.PlacedFiles.{PlacedFiles, store_of}
-use Rattle.block_entries.specs.SameLaws.{octets_same}
-use Rattle.block_entries.specs.Seen.{octets_in, stamp_at}
+use Rattle.file_store_blocks.specs.Checking.{IsSealable}
+use Rattle.file_store_blocks.specs.KeptLaws.{times_at, times_files}
+use Rattle.file_store_blocks.specs.Placed.{Placed, Uses, has_number, placed_of}
+use Rattle.file_store_blocks.specs.PlacedFiles.{PlacedFiles, store_of}
+use Rattle.file_store_blocks.specs.SameLaws.{octets_same}
+use Rattle.file_store_blocks.specs.Seen.{octets_in, stamp_at}
 use Rattle.file_journal.specs.Layout.{Blocks, HoldSame}
 use Rattle.file_store.specs.Changes.{LetsBy}
 use Rattle.file_store.specs.declared.change.EntriesChange.{EntriesChange}

@@ -1,16 +1,17 @@
 -- The code's changes of the entries as commands of the store.
 use Rattle.std.specs.Prelude.{◌≡◌, ℕ, List, [], Option, None, Some, IfSome, ⊤}
-use Rattle.block_entries.specs.Checking.{IsSealable}
-use Rattle.block_entries.specs.IsPlaced.{IsPlaced}
-use Rattle.block_entries.specs.Placed.{PlacedStore, new_placed, placed_of}
-use Rattle.block_entries.specs.PlacedCommand as placed
-use Rattle.block_entries.specs.PlacedCommand.{PlacedCommand, is_partial, seal_with, with_grown, with_new, with_sealed}
-use Rattle.block_entries.specs.PlacedCommand.{without_file}
-use Rattle.block_entries.specs.PlacedFiles.{Becomes, EntriesState, IsLowest, PlacedFiles, Waits, octets_or_none}
-use Rattle.block_entries.specs.PlacedFiles.{rest_of, store_of}
-use Rattle.block_entries.specs.Seen.{octets_in, seen, stamp_at}
-use Rattle.block_entries.specs.TestLaws.{Grows, Passes, TakesSeal}
-use Rattle.file_entries.specs.Command.{Command, MayBegin, begin, drop_entry, grow, seal}
+use Rattle.file_store_blocks.specs.Checking.{IsSealable}
+use Rattle.file_store_blocks.specs.IsPlaced.{IsPlaced}
+use Rattle.file_store_blocks.specs.Placed.{PlacedStore, new_placed, placed_of}
+use Rattle.file_store_blocks.specs.PlacedCommand as placed
+use Rattle.file_store_blocks.specs.PlacedCommand.{PlacedCommand, is_partial, seal_with, with_grown, with_new}
+use Rattle.file_store_blocks.specs.PlacedCommand.{with_sealed}
+use Rattle.file_store_blocks.specs.PlacedCommand.{without_file}
+use Rattle.file_store_blocks.specs.PlacedFiles.{Becomes, EntriesState, IsLowest, PlacedFiles, Waits, octets_or_none}
+use Rattle.file_store_blocks.specs.PlacedFiles.{rest_of, store_of}
+use Rattle.file_store_blocks.specs.Seen.{octets_in, seen, stamp_at}
+use Rattle.file_store_blocks.specs.TestLaws.{Grows, Passes, TakesSeal}
+use Rattle.file_store_model.specs.Command.{Command, MayBegin, begin, drop_entry, grow, seal}
 use Rattle.file_journal.specs.Layout.{Blocks}
 use Rattle.file_journal.specs.Steps.{PutBlock, Turn}
 use Rattle.file_store.specs.declared.change.EntriesChange.{EntriesChange}

@@ -1,15 +1,15 @@
 -- How the end of a file of which all octets came goes.
 use Rattle.std.specs.Prelude.{◌≡◌, ◌⊎◌, ℕ, List, [], ◌∷◌, ◌++◌, length, Bool, true, false, if◌then◌else◌}
 use Rattle.std.specs.Prelude.{Option, None, Some, Result, Ok, Err, IsErr, IsTrue, IfOk, ⊤}
-use Rattle.block_entries.specs.Checking.{IsFaultCode}
-use Rattle.block_entries.specs.PlacedFiles.{KeepsRests, octets_or_none}
+use Rattle.file_store_blocks.specs.Checking.{IsFaultCode}
+use Rattle.file_store_blocks.specs.PlacedFiles.{KeepsRests, octets_or_none}
 use Rattle.disk_model.specs.AtDisk.{AtDisk, at}
 use Rattle.disk_model.specs.declared.disk.Disk.{Ghosts}
 use Rattle.disk_model.specs.declared.disk.DiskFault.{DiskFault}
-use Rattle.file_entries.specs.Command.{Command, last_grow}
-use Rattle.file_entries.specs.Faults.{fault_code}
-use Rattle.file_entries.specs.Info.{IsCompleteIn}
-use Rattle.file_entries.specs.Store.{Entry, Store, complete, entry_of, partial}
+use Rattle.file_store_model.specs.Command.{Command, last_grow}
+use Rattle.file_store_model.specs.Faults.{fault_code}
+use Rattle.file_store_model.specs.Info.{IsCompleteIn}
+use Rattle.file_store_model.specs.Store.{Entry, Store, complete, entry_of, partial}
 use Rattle.disk_model.specs.Runs.{one_if, Reads}
 use Rattle.file_store.specs.Kept.{OnlyChanges}
 use Rattle.file_store.specs.OnDisk.{Does}

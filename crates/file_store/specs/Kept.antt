@@ -1,9 +1,9 @@
 -- What each call of the store keeps.
 use Rattle.std.specs.Prelude.{◌≡◌, ◌≢◌, ℕ, Some}
 use Rattle.disk_model.specs.declared.disk.Disk.{Ghosts}
-use Rattle.block_entries.specs.PlacedFiles.{KeepsRests}
-use Rattle.file_entries.specs.Kept.{KeepsComplete}
-use Rattle.file_entries.specs.Store.{Entry, Store, entry_of}
+use Rattle.file_store_blocks.specs.PlacedFiles.{KeepsRests}
+use Rattle.file_store_model.specs.Kept.{KeepsComplete}
+use Rattle.file_store_model.specs.Store.{Entry, Store, entry_of}
 use Rattle.file_store.specs.State.{StandsOn, StoreState, store_in}
 use Rattle.file_store.specs.Upload.{Upload, Holds}
 

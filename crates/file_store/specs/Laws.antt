@@ -5,14 +5,14 @@ use Rattle.disk_model.specs.Moments.{ChangesNothing}
 use Rattle.disk_model.specs.declared.disk.Disk.{Ghosts}
 use Rattle.disk_model.specs.Runs.{images_now}
 use Rattle.file_journal.specs.Layout.{block_in}
-use Rattle.file_entries.specs.Command.{AreAllowed, Command}
-use Rattle.file_entries.specs.Info.{is_complete}
-use Rattle.file_entries.specs.IsStore.{IsStore}
-use Rattle.file_entries.specs.Store.{Entry, Store, complete, entry_of, holding_of_number, partial}
-use Rattle.block_entries.specs.Laws.{IsPlacedAfter}
-use Rattle.file_entries.specs.Like.{IsStoreLike}
-use Rattle.block_entries.specs.ReadStore.{ReadStore, Recorded}
-use Rattle.block_entries.specs.Seen.{seen}
+use Rattle.file_store_model.specs.Command.{AreAllowed, Command}
+use Rattle.file_store_model.specs.Info.{is_complete}
+use Rattle.file_store_model.specs.IsStore.{IsStore}
+use Rattle.file_store_model.specs.Store.{Entry, Store, complete, entry_of, holding_of_number, partial}
+use Rattle.file_store_blocks.specs.Laws.{IsPlacedAfter}
+use Rattle.file_store_model.specs.Like.{IsStoreLike}
+use Rattle.file_store_blocks.specs.ReadStore.{ReadStore, Recorded}
+use Rattle.file_store_blocks.specs.Seen.{seen}
 use Rattle.file_store.specs.OnDisk.{MakesBetween}
 use Rattle.file_store.specs.State.{IsKnown, IsReady, StandsFor, StandsOn, StoreState, store_in, store_on}
 use Rattle.file_store.specs.Upload.{Upload, entry_for, kept_file}

@@ -12,20 +12,20 @@ pub mod Sealing
 pub mod State
 pub mod Upload
 pub mod Working
-pub use Rattle.file_entries.specs.Bars
-pub use Rattle.file_entries.specs.Command
-pub use Rattle.block_entries.specs.PlacedFiles as Files
-pub use Rattle.block_entries.specs.Outlined
-pub use Rattle.block_entries.specs.Laws as EntriesLaws
-pub use Rattle.file_entries.specs.Headers
-pub use Rattle.file_entries.specs.Info
-pub use Rattle.file_entries.specs.IsStore
-pub use Rattle.file_entries.specs.Kept as EntriesKept
-pub use Rattle.file_entries.specs.Like
-pub use Rattle.file_entries.specs.Store
-pub use Rattle.file_entries.specs.declared.begin_bar.BeginBar
-pub use Rattle.file_entries.specs.declared.info.Info as EntriesInfo
-pub use Rattle.file_entries.specs.Limits
+pub use Rattle.file_store_model.specs.Bars
+pub use Rattle.file_store_model.specs.Command
+pub use Rattle.file_store_blocks.specs.PlacedFiles as Files
+pub use Rattle.file_store_blocks.specs.Outlined
+pub use Rattle.file_store_blocks.specs.Laws as EntriesLaws
+pub use Rattle.file_store_model.specs.Headers
+pub use Rattle.file_store_model.specs.Info
+pub use Rattle.file_store_model.specs.IsStore
+pub use Rattle.file_store_model.specs.Kept as EntriesKept
+pub use Rattle.file_store_model.specs.Like
+pub use Rattle.file_store_model.specs.Store
+pub use Rattle.file_store_model.specs.declared.begin_bar.BeginBar
+pub use Rattle.file_store_model.specs.declared.info.Info as EntriesInfo
+pub use Rattle.file_store_model.specs.Limits
 pub use Rattle.file_journal.specs.Bounds
 pub use Rattle.file_journal.specs.Journal
 pub use Rattle.file_journal.specs.Position

@@ -4,9 +4,9 @@ use Rattle.disk_model.specs.declared.disk.Disk.{Ghosts}
 use Rattle.file_journal.specs.Commands as kept_commands
 use Rattle.file_journal.specs.Kept as kept
 use Rattle.file_journal.specs.Kept.{KeptOn, kept_on}
-use Rattle.file_entries.specs.Command.{Command, after_all, begin, drop_entry, grow, seal}
-use Rattle.block_entries.specs.PlacedFiles.{KeepsRests}
-use Rattle.file_entries.specs.Store.{Store}
+use Rattle.file_store_model.specs.Command.{Command, after_all, begin, drop_entry, grow, seal}
+use Rattle.file_store_blocks.specs.PlacedFiles.{KeepsRests}
+use Rattle.file_store_model.specs.Store.{Store}
 use Rattle.file_store.specs.State.{StandsOn, StoreState, store_form, store_in, store_on}
 
 -- the store after the first so many of these commands

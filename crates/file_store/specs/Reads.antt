@@ -2,7 +2,7 @@
 use Rattle.std.specs.Prelude.{◌≡◌, ℕ}
 use Rattle.disk_model.specs.declared.disk.Disk.{Ghosts}
 use Rattle.disk_model.specs.Runs.{Reads}
-use Rattle.file_entries.specs.Info.{IsCompleteIn}
+use Rattle.file_store_model.specs.Info.{IsCompleteIn}
 use Rattle.file_store.specs.State.{IsReady, StoreState, store_in}
 
 -- The store is ready, and the file of this number is complete.

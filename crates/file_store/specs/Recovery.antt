@@ -1,7 +1,7 @@
 -- What a recovery of the store makes of a disk, what it answers, and what a crash in it leaves.
 use Rattle.std.specs.Prelude.{◌≡◌, ℕ, List, Option, IfSome, Result}
 use Rattle.disk_model.specs.declared.disk.Disk.{Ghosts}
-use Rattle.block_entries.specs.PlacedFiles.{NothingOut}
+use Rattle.file_store_blocks.specs.PlacedFiles.{NothingOut}
 use Rattle.disk_model.specs.Runs.{IsQuietNow}
 use Rattle.file_journal.specs.Recovery.{number_in}
 use Rattle.file_journal.specs.Restoring as restoring

@@ -1,6 +1,6 @@
 -- The refusals of crates below as those of the store.
-use Rattle.file_entries.specs.declared.begin_bar.BeginBar.{BeginBar}
-use Rattle.file_entries.specs.declared.begin_bar.BeginBar.TheVariants as bar
+use Rattle.file_store_model.specs.declared.begin_bar.BeginBar.{BeginBar}
+use Rattle.file_store_model.specs.declared.begin_bar.BeginBar.TheVariants as bar
 use Rattle.file_store.specs.declared.refusals.BeginRefusal.{BeginRefusal}
 use Rattle.file_store.specs.declared.refusals.BeginRefusal.TheVariants as refusal
 

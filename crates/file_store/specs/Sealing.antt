@@ -3,8 +3,8 @@ use Rattle.std.specs.Prelude.{◌≡◌, ℕ, List, [], ◌∷◌, ◌++◌, if�
 use Rattle.std.specs.Prelude.{IsErrOf, ⊤}
 use Rattle.disk_model.specs.AtDisk.{at}
 use Rattle.disk_model.specs.declared.disk.Disk.{Ghosts}
-use Rattle.file_entries.specs.Command.{Command, last_grow}
-use Rattle.file_entries.specs.Faults.{fault_code}
+use Rattle.file_store_model.specs.Command.{Command, last_grow}
+use Rattle.file_store_model.specs.Faults.{fault_code}
 use Rattle.file_store.specs.Answers.{seal_missed, seal_misses}
 use Rattle.file_store.specs.Ending.{EndsInOrder}
 use Rattle.file_store.specs.State.{IsKnown, StoreState, store_on}

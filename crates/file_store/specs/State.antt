@@ -1,14 +1,14 @@
 -- A store of files on a disk as contracts see it, and what octets on a disk stand for as one.
 use Rattle.std.specs.Prelude.{◌≡◌, ℕ, List, Option, false, true}
 use Rattle.disk_model.specs.declared.disk.Disk.{Ghosts}
-use Rattle.block_entries.specs.Outlined.{outlined}
-use Rattle.block_entries.specs.Placed.{PlacedStore}
-use Rattle.block_entries.specs.PlacedFiles.{PlacedFiles, rest_of, store_of}
-use Rattle.block_entries.specs.PlacedForm.{placed_form, placed_steps}
-use Rattle.block_entries.specs.PlacedRecords.{placed_magic}
-use Rattle.block_entries.specs.Seen.{seen}
-use Rattle.file_entries.specs.Command.{Command}
-use Rattle.file_entries.specs.Store.{Store}
+use Rattle.file_store_blocks.specs.Outlined.{outlined}
+use Rattle.file_store_blocks.specs.Placed.{PlacedStore}
+use Rattle.file_store_blocks.specs.PlacedFiles.{PlacedFiles, rest_of, store_of}
+use Rattle.file_store_blocks.specs.PlacedForm.{placed_form, placed_steps}
+use Rattle.file_store_blocks.specs.PlacedRecords.{placed_magic}
+use Rattle.file_store_blocks.specs.Seen.{seen}
+use Rattle.file_store_model.specs.Command.{Command}
+use Rattle.file_store_model.specs.Store.{Store}
 use Rattle.file_journal.specs.Form as form
 use Rattle.file_journal.specs.Form.{Form}
 use Rattle.file_journal.specs.Kept.{StandsAt}

@@ -1,12 +1,12 @@
 -- An upload that is under way: what its holder knows of the entry.
 use Rattle.std.specs.Prelude.{◌≡◌, ◌⊎◌, ℕ, ◌+◌, ◌*◌, ◌/◌, ◌<◌, ◌≤◌, List, [], ◌∷◌, ◌++◌, length, Some, Option, None}
 use Rattle.px_base.specs.CallSign.{CallSign}
-use Rattle.file_entries.specs.Faults.{fault_code}
-use Rattle.file_entries.specs.Stamp.{StampValue, stamped}
-use Rattle.file_entries.specs.Limits.{longest_file}
-use Rattle.file_entries.specs.Command.{Command, seal, drop_entry, last_grow, whole_grows}
-use Rattle.block_entries.specs.PlacedFiles.{octets_or_none}
-use Rattle.file_entries.specs.Store.{partial, entry_of, octets_at, Entry, Holding, Store}
+use Rattle.file_store_model.specs.Faults.{fault_code}
+use Rattle.file_store_model.specs.Stamp.{StampValue, stamped}
+use Rattle.file_store_model.specs.Limits.{longest_file}
+use Rattle.file_store_model.specs.Command.{Command, seal, drop_entry, last_grow, whole_grows}
+use Rattle.file_store_blocks.specs.PlacedFiles.{octets_or_none}
+use Rattle.file_store_model.specs.Store.{partial, entry_of, octets_at, Entry, Holding, Store}
 use Rattle.file_store.specs.State.{StoreState, rest_in, store_in}
 
 pub record Upload : Type 0 where

@@ -3,7 +3,7 @@ use Rattle.std.specs.Prelude.{ℕ, List}
 use Rattle.disk_model.specs.AtDisk.{AtDisk}
 use Rattle.disk_model.specs.declared.disk.Disk.{Ghosts}
 use Rattle.file_journal.specs.AmongReads as among
-use Rattle.file_entries.specs.Command.{Command}
+use Rattle.file_store_model.specs.Command.{Command}
 use Rattle.file_store.specs.OnDisk.{kept_at}
 use Rattle.file_store.specs.State.{StoreState, store_form}
 pub use Rattle.disk_model.specs.Runs.{CountsSome, PutsAmongReads, StopsAtFailedWrite, one_if}

@@ -1,22 +1,22 @@
 //! The changes of the entries, each of which is one command.
 
 ghost use Rattle.std.specs.Prelude.{◌≡◌, refl};
-ghost use Rattle.block_entries.specs.Placed.{PlacedStore};
-ghost use Rattle.block_entries.specs.PlacedCommands.{placed_value};
-ghost use Rattle.block_entries.specs.PlacedFiles.{store_of};
-ghost use Rattle.block_entries.specs.PlacedLaws.{placed_seen};
-ghost use Rattle.block_entries.specs.PlacedForm.{placed_form, placed_steps};
-ghost use Rattle.block_entries.specs.PlacedRecords.{IsWritable};
-ghost use Rattle.block_entries.specs.ReadStore.{ReadStore};
-ghost use Rattle.block_entries.specs.Seen.{seen};
-ghost use Rattle.file_entries.specs.Command.{Command as StoreCommand};
-ghost use Rattle.file_entries.specs.Store.{Store};
+ghost use Rattle.file_store_blocks.specs.Placed.{PlacedStore};
+ghost use Rattle.file_store_blocks.specs.PlacedCommands.{placed_value};
+ghost use Rattle.file_store_blocks.specs.PlacedFiles.{store_of};
+ghost use Rattle.file_store_blocks.specs.PlacedLaws.{placed_seen};
+ghost use Rattle.file_store_blocks.specs.PlacedForm.{placed_form, placed_steps};
+ghost use Rattle.file_store_blocks.specs.PlacedRecords.{IsWritable};
+ghost use Rattle.file_store_blocks.specs.ReadStore.{ReadStore};
+ghost use Rattle.file_store_blocks.specs.Seen.{seen};
+ghost use Rattle.file_store_model.specs.Command.{Command as StoreCommand};
+ghost use Rattle.file_store_model.specs.Store.{Store};
 ghost use Rattle.file_journal.specs.Form.{same_form};
 ghost use Rattle.file_store.specs.ChangeLaws.{lets_same};
 ghost use Rattle.file_store.specs.Changes.{MakesOf, MayMake, placed_by, turn_by};
 
-use block_entries::{CheckedHeader, Entries, PlacedCommand};
 use file_journal::{BlockPut, Change, RecordContent};
+use file_store_blocks::{CheckedHeader, Entries, PlacedCommand};
 use px_base::{Call, FileNumber, Moment};
 
 /// A change of the entries, which is one command.

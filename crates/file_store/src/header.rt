@@ -2,7 +2,7 @@
 
 ghost use Rattle.std.specs.Prelude.{◌≡◌, ◌≤◌, ◌↔◌, IfOk, IsTrue, vec_capacity};
 ghost use Rattle.std.specs.List.{list_all};
-ghost use Rattle.file_entries.specs.Headers.{IsWholeHeader};
+ghost use Rattle.file_store_model.specs.Headers.{IsWholeHeader};
 ghost use Rattle.pfh_items.specs.Faults.{is_one_of_len, items_with};
 ghost use Rattle.pfh_items.specs.Table.{mandatory_items};
 

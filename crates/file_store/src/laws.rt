@@ -1,9 +1,9 @@
 //! Laws of a store on a disk.
 
 ghost use Rattle.std.specs.Prelude.{◌≡◌, ℕ, Some, IsTrue};
-ghost use Rattle.file_entries.specs.Info.{is_complete};
-ghost use Rattle.file_entries.specs.IsStore.{IsStore};
-ghost use Rattle.file_entries.specs.Store.{Entry, entry_of};
+ghost use Rattle.file_store_model.specs.Info.{is_complete};
+ghost use Rattle.file_store_model.specs.IsStore.{IsStore};
+ghost use Rattle.file_store_model.specs.Store.{Entry, entry_of};
 ghost use Rattle.file_store.specs.Laws.{ArmedLaw, HoldsInEach, ReceiptLaw, StandingLaw, StandsInEach, ToldLaw};
 ghost use Rattle.file_store.specs.State.{IsRead, IsReady, store_in, store_on};
 ghost use Rattle.file_store.specs.Upload.{Holds};

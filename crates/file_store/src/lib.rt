@@ -1,8 +1,8 @@
 //! The store of files on a disk that may lose power at any moment: partial and complete files, and the uploads under
 //! way.
 //!
-//! The store is a list of entries, whose octets stand in blocks of the disk (crate `block_entries`), and each call does
-//! some of its commands (crate `file_entries`). Each command is a record of a journal (crate `file_journal`): what it
+//! The store is a list of entries, whose octets stand in blocks of the disk (crate `file_store_blocks`), and each call does
+//! some of its commands (crate `file_store_model`). Each command is a record of a journal (crate `file_journal`): what it
 //! puts in a block and then its record are on the disk, synced, before the entries change in memory, and so before the
 //! caller can say anything of it. A crash leaves the store after the first of the commands, none skipped. The records
 //! stand in one of two halves of the disk: where it has no room for one more, those that make the store anew are
@@ -21,9 +21,9 @@ mod reading;
 mod receipt;
 mod refusals;
 
-pub use file_entries::{Info, LAST_NEXT, LONGEST_FILE, MOST_ENTRIES, header_in};
 pub use file_journal::StoreFault;
 pub use file_store::FileStore;
+pub use file_store_model::{Info, LAST_NEXT, LONGEST_FILE, MOST_ENTRIES, header_in};
 pub use limits::Limits;
 pub use open_upload::OpenUpload;
 pub use receipt::Receipt;

@@ -1,7 +1,7 @@
 //! An upload under way.
 
 ghost use Rattle.std.specs.Prelude.{◌≡◌, ◌+◌, ◌≤◌};
-ghost use Rattle.file_entries.specs.Limits.{longest_file};
+ghost use Rattle.file_store_model.specs.Limits.{longest_file};
 
 use crate::LONGEST_FILE;
 use px_base::{Call, FileNumber};

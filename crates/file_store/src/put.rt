@@ -7,9 +7,9 @@ ghost use Rattle.file_store.specs.OnDisk.{Does};
 ghost use Rattle.file_store.specs.State.{IsKnown, IsRead, IsReady, StandsOn, state_from};
 
 use crate::change::EntriesChange;
-use block_entries::Entries;
 use disk_model::{Disk, DiskFault};
 use file_journal::Kept;
+use file_store_blocks::Entries;
 
 /// Makes a change of the entries that may be made, of a store that hasn't failed. After `Ok` a crash leaves the store
 /// after its command, until then and after a fault that or the one before it. Two writes and two syncs, and one of each

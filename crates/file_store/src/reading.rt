@@ -2,21 +2,21 @@
 
 ghost use Rattle.std.specs.Prelude.{ℕ, ◌+◌, ◌≤◌, length, vec_capacity, IsErr, IsErrOf, IsSome, IsSomeAnd, IsTrue};
 ghost use Rattle.std.specs.Prelude.{IfOk, IfSome, OnOk, ◌↔◌};
-ghost use Rattle.block_entries.specs.Checking.{ChecksFile, HasFault, IsFaultCode};
-ghost use Rattle.block_entries.specs.Placed.{placed_of};
-ghost use Rattle.block_entries.specs.PlacedFiles.{store_of};
+ghost use Rattle.file_store_blocks.specs.Checking.{ChecksFile, HasFault, IsFaultCode};
+ghost use Rattle.file_store_blocks.specs.Placed.{placed_of};
+ghost use Rattle.file_store_blocks.specs.PlacedFiles.{store_of};
 ghost use Rattle.disk_model.specs.Disk.{FillsRoom};
-ghost use Rattle.file_entries.specs.Headers.{IsHeaderOf, IsWholeHeader};
-ghost use Rattle.file_entries.specs.Store.{entry_of, octets_at};
+ghost use Rattle.file_store_model.specs.Headers.{IsHeaderOf, IsWholeHeader};
+ghost use Rattle.file_store_model.specs.Store.{entry_of, octets_at};
 ghost use Rattle.disk_model.specs.Runs.{Reads};
 ghost use Rattle.file_store.specs.Reads.{MayRead};
 ghost use Rattle.file_store.specs.State.{IsKnown, IsReady, state_from, store_in, store_on};
 
 use crate::HeaderFault;
 use crate::header::is_header;
-use block_entries::{CheckFault, CheckedHeader, Entries};
 use disk_model::{Disk, DiskFault};
 use file_journal::Kept;
+use file_store_blocks::{CheckFault, CheckedHeader, Entries};
 use px_base::{FileNumber, Moment};
 
 /// Checks a file of which all octets are held by its header: the sum that the header has with the stamp of this moment,

@@ -6,7 +6,7 @@ ghost use Rattle.file_store.specs.declared.refusals.BeginRefusal.TheVariants.{Di
 
 use crate::OpenUpload;
 use disk_model::DiskFault;
-use file_entries::BeginBar;
+use file_store_model::BeginBar;
 use thiserror::Error;
 
 /// Why a file was not begun. But for `Disk` neither the store nor its disk was touched.

@@ -2,8 +2,8 @@
 use Rattle.std.proofs.Common.{◌≡◌, ◌≢◌, ℕ, true, false, ◌==◌, List, [], ◌∷◌, ◌++◌, refl, sym, ◌∙◌, ap, ap₂, subst}
 use Rattle.std.specs.List.{AllByRecursion}
 use Rattle.ax25_link.specs.declared.state.LinkState.TheVariants as link
-use Rattle.ftl0_job.specs.declared.ending.Outcome.{Outcome}
-use Rattle.ftl0_job.specs.declared.ending.Outcome.TheVariants as reached
+use Rattle.ftl0_client_job.specs.declared.ending.Outcome.{Outcome}
+use Rattle.ftl0_client_job.specs.declared.ending.Outcome.TheVariants as reached
 use Rattle.ftl0_client.specs.Attempt.Attempted as attempted
 use Rattle.ftl0_client.specs.Attempt.Laws as of_attempts
 use Rattle.ftl0_client.specs.Going.{AsksNothing, GoesLaw, GoesOver, Promises, SettledLaw, Stands, StaysLaw, is_over_at}

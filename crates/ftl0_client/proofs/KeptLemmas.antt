@@ -2,7 +2,7 @@
 use Rattle.std.proofs.Common.{◌⊎◌, refl, sym, ◌∙◌, ap, subst, inl, inr}
 use Rattle.std.specs.Prelude.{◌∷◌}
 use Rattle.client_notes.specs.declared.refusals.NotesRefusal.TheVariants as refusal
-use Rattle.ftl0_job.specs.declared.work.Work.TheVariants as work
+use Rattle.ftl0_client_job.specs.declared.work.Work.TheVariants as work
 use Rattle.ftl0_client.proofs.Names.{ℕ, List, [], Option, None, Some, Result, Ok, Err, IsErr, IsErrOf, IsTrue, CallSign, Ghosts, fresh_task, start_reaches, after, new_task, Lists, Does, Untouched, IsReady, NotesState, StandsOn, Begun, NotesRefusal, task-more, Ending, Work, GoBy, GoWith, AttemptState, KeepsNotes, ClientState, GoWithAttempt, MayHear}
 
 -- ---- the notes are as they were

@@ -47,16 +47,16 @@ pub use Rattle.ftl0_client.specs.ClientState.{ClientState, GoWithAttempt, HasLin
 pub use Rattle.ftl0_client.specs.ClientStep.{ClientStep, Empties, happening}
 pub use Rattle.ftl0_client.specs.Inside.{client_state}
 pub use Rattle.ftl0_client.specs.Laws.{EndFits, IsToldDownOf, KeepsOutcome, MayStep, OneStepLaw, SomeStepLaw, StrangerLaw}
-pub use Rattle.ftl0_job.proofs.Offered.{DownloadRows, UploadRows, acknowledged, download-rows, ending-none, fetched, job-in, stays-item, upload-rows}
-pub use Rattle.ftl0_job.specs.Due.{DuePacket, PutsDue, due_by, in_job, next_due, work_due}
-pub use Rattle.ftl0_job.specs.JobState.{GoBy, GoWith, HasGot, HasTask, MayTake}
-pub use Rattle.ftl0_job.specs.Laws.{Acknowledges, BegunLaw, DueLaw, IsOwned, IsStarted, OwnedLaw, PromisesLaw, StartedLaw, reached, started}
-pub use Rattle.ftl0_job.specs.Promises.{EndPromises, JobStands, WorkPromises}
-pub use Rattle.ftl0_job.specs.Row.{Row, strange, strange_ending}
-pub use Rattle.ftl0_job.specs.Table.{JobState, job_after, job_row, listing_of, new_job, row_of}
-pub use Rattle.ftl0_job.specs.Taking.{TakesPacket, WithNotes, with_notes}
-pub use Rattle.ftl0_job.specs.declared.ending.Ending.{Ending}
-pub use Rattle.ftl0_job.specs.declared.work.Work.{Work}
+pub use Rattle.ftl0_client_job.proofs.Offered.{DownloadRows, UploadRows, acknowledged, download-rows, ending-none, fetched, job-in, stays-item, upload-rows}
+pub use Rattle.ftl0_client_job.specs.Due.{DuePacket, PutsDue, due_by, in_job, next_due, work_due}
+pub use Rattle.ftl0_client_job.specs.JobState.{GoBy, GoWith, HasGot, HasTask, MayTake}
+pub use Rattle.ftl0_client_job.specs.Laws.{Acknowledges, BegunLaw, DueLaw, IsOwned, IsStarted, OwnedLaw, PromisesLaw, StartedLaw, reached, started}
+pub use Rattle.ftl0_client_job.specs.Promises.{EndPromises, JobStands, WorkPromises}
+pub use Rattle.ftl0_client_job.specs.Row.{Row, strange, strange_ending}
+pub use Rattle.ftl0_client_job.specs.Table.{JobState, job_after, job_row, listing_of, new_job, row_of}
+pub use Rattle.ftl0_client_job.specs.Taking.{TakesPacket, WithNotes, with_notes}
+pub use Rattle.ftl0_client_job.specs.declared.ending.Ending.{Ending}
+pub use Rattle.ftl0_client_job.specs.declared.work.Work.{Work}
 pub use Rattle.ftl0_packets.specs.Items.{kind_of_item, texts}
 pub use Rattle.ftl0_packets.specs.Layout.{Item, PacketValue, packet_text}
 pub use Rattle.ftl0_packets.specs.Reading.{packets_of, read_item, under_way}

@@ -1,9 +1,9 @@
 -- What became of what was asked stays, and is noted.
 use Rattle.std.proofs.Common.{◌≡◌, ◌≢◌, ℕ, Bool, true, false, refl, sym, ◌∙◌, ap, subst}
 use Rattle.std.specs.Prelude.{if◌then◌else◌}
-use Rattle.ftl0_job.specs.declared.ending.Outcome.{Outcome}
-use Rattle.ftl0_job.specs.declared.ending.Outcome.TheVariants as outcome
-use Rattle.ftl0_job.specs.declared.work.Work.TheVariants as work
+use Rattle.ftl0_client_job.specs.declared.ending.Outcome.{Outcome}
+use Rattle.ftl0_client_job.specs.declared.ending.Outcome.TheVariants as outcome
+use Rattle.ftl0_client_job.specs.declared.work.Work.TheVariants as work
 use Rattle.ftl0_client.specs.Attempt.Attempted as attempted
 use Rattle.ftl0_client.specs.Attempt.Laws as of_attempts
 use Rattle.ftl0_client.specs.Laws.{AckedLaw, FetchedLaw, OutcomeLaw}

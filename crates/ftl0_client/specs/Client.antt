@@ -10,7 +10,7 @@ use Rattle.ax25_link.specs.declared.refusal.Refusal.{Refusal}
 use Rattle.client_notes.specs.Command.{NotesCommand}
 use Rattle.client_notes.specs.Laws.{after_all}
 use Rattle.client_notes.specs.Notes.{Lists, is_same_call}
-use Rattle.ftl0_job.specs.Table.{JobState}
+use Rattle.ftl0_client_job.specs.Table.{JobState}
 use Rattle.ftl0_client.specs.Attempt.Attempted.{Attempted, calling}
 use Rattle.ftl0_client.specs.Attempt.Hearing.{hearing, ticking, with_end}
 use Rattle.ftl0_client.specs.Attempt.Taking.{Happened}

@@ -7,11 +7,11 @@ use Rattle.ax25_link.specs.Kept.{Fits, HasStations, count_of, is_pending, is_the
 use Rattle.ax25_link.specs.Window.{Window, window_of}
 use Rattle.client_notes.specs.Notes.{Lists}
 use Rattle.client_notes.specs.State.{IsReady, NotesState}
-use Rattle.ftl0_job.specs.declared.ending.Outcome.{Outcome}
-use Rattle.ftl0_job.specs.declared.work.Work.{Work}
-use Rattle.ftl0_job.specs.declared.work.Work.TheVariants as work
-use Rattle.ftl0_job.specs.JobState.{IsTaskOf, NotesGoWith}
-use Rattle.ftl0_job.specs.Table.{listing_of}
+use Rattle.ftl0_client_job.specs.declared.ending.Outcome.{Outcome}
+use Rattle.ftl0_client_job.specs.declared.work.Work.{Work}
+use Rattle.ftl0_client_job.specs.declared.work.Work.TheVariants as work
+use Rattle.ftl0_client_job.specs.JobState.{IsTaskOf, NotesGoWith}
+use Rattle.ftl0_client_job.specs.Table.{listing_of}
 use Rattle.ftl0_client.specs.Attempt.Attempted.{Attempted}
 use Rattle.ftl0_client.specs.Attempt.Attempted as attempted
 use Rattle.ftl0_client.specs.Attempt.AttemptState.{AttemptState, IsAttempt, is_closed}

@@ -14,11 +14,11 @@ use Rattle.packet_link.specs.Queuing.{enough_free, fits, on_due}
 use Rattle.client_notes.specs.Command.{NotesCommand}
 use Rattle.client_notes.specs.Laws.{after_all}
 use Rattle.client_notes.specs.Notes.{Lists}
-use Rattle.ftl0_job.specs.declared.ending.Ending.{Ending}
-use Rattle.ftl0_job.specs.declared.work.Work.{Work}
-use Rattle.ftl0_job.specs.Due.{DuePacket, next_due}
-use Rattle.ftl0_job.specs.Row.{Row, strange_ending}
-use Rattle.ftl0_job.specs.Table.{JobState, job_after, job_row}
+use Rattle.ftl0_client_job.specs.declared.ending.Ending.{Ending}
+use Rattle.ftl0_client_job.specs.declared.work.Work.{Work}
+use Rattle.ftl0_client_job.specs.Due.{DuePacket, next_due}
+use Rattle.ftl0_client_job.specs.Row.{Row, strange_ending}
+use Rattle.ftl0_client_job.specs.Table.{JobState, job_after, job_row}
 use Rattle.ftl0_client.specs.Attempt.Attempted.{Attempted}
 use Rattle.ftl0_client.specs.Attempt.Hearing.{after_hearing, after_ticking, hearing, packets_heard, ticking}
 use Rattle.ftl0_client.specs.Attempt.Settling.{after_due}

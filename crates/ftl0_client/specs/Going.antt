@@ -7,12 +7,12 @@ use Rattle.ax25_link.specs.Timer.{is_down}
 use Rattle.client_notes.specs.Command.{NotesCommand}
 use Rattle.client_notes.specs.Laws.{after_all}
 use Rattle.client_notes.specs.Notes.{Lists}
-use Rattle.ftl0_job.specs.declared.ending.Outcome.{Outcome}
-use Rattle.ftl0_job.specs.declared.ending.Outcome.TheVariants.{LinkDown}
-use Rattle.ftl0_job.specs.declared.work.Work.{Work}
-use Rattle.ftl0_job.specs.JobState.{IsNew, NotesGoWith}
-use Rattle.ftl0_job.specs.Promises.{EndPromises, IsFilled, IsOfSame, WorkPromises}
-use Rattle.ftl0_job.specs.Table.{JobState, listing_of}
+use Rattle.ftl0_client_job.specs.declared.ending.Outcome.{Outcome}
+use Rattle.ftl0_client_job.specs.declared.ending.Outcome.TheVariants.{LinkDown}
+use Rattle.ftl0_client_job.specs.declared.work.Work.{Work}
+use Rattle.ftl0_client_job.specs.JobState.{IsNew, NotesGoWith}
+use Rattle.ftl0_client_job.specs.Promises.{EndPromises, IsFilled, IsOfSame, WorkPromises}
+use Rattle.ftl0_client_job.specs.Table.{JobState, listing_of}
 use Rattle.ftl0_client.specs.Attempt.Attempted.{Attempted, outcome_of}
 use Rattle.ftl0_client.specs.Attempt.Laws.{IsToldDown}
 use Rattle.ftl0_client.specs.Client.{Client, ClientEvent, asks, hears, ticks}

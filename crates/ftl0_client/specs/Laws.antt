@@ -8,12 +8,12 @@ use Rattle.ax25_link.specs.Rows.{after_frame}
 use Rattle.ax25_link.specs.Sending.{IsQuiet, Sending, next_sending}
 use Rattle.ax25_link.specs.Window.{Window}
 use Rattle.client_notes.specs.Command.{NotesCommand}
-use Rattle.ftl0_job.specs.declared.ending.Outcome.TheVariants as outcome
-use Rattle.ftl0_job.specs.declared.work.Work.TheVariants as work
-use Rattle.ftl0_job.specs.Download.{Download}
-use Rattle.ftl0_job.specs.JobState.{HasGot, HasTask}
-use Rattle.ftl0_job.specs.Table.{new_job}
-use Rattle.ftl0_job.specs.Upload.{Upload}
+use Rattle.ftl0_client_job.specs.declared.ending.Outcome.TheVariants as outcome
+use Rattle.ftl0_client_job.specs.declared.work.Work.TheVariants as work
+use Rattle.ftl0_client_job.specs.Download.{Download}
+use Rattle.ftl0_client_job.specs.JobState.{HasGot, HasTask}
+use Rattle.ftl0_client_job.specs.Table.{new_job}
+use Rattle.ftl0_client_job.specs.Upload.{Upload}
 use Rattle.ftl0_client.specs.Attempt.Attempted.{Attempted}
 use Rattle.ftl0_client.specs.Attempt.Laws.{AcknowledgesIn, IsFetchedBy, IsToldDown}
 use Rattle.ftl0_client.specs.Client.{Client, ClientEvent, ClientSends, IsSilent, client_hearing, client_next}

@@ -9,15 +9,15 @@ pub mod Inside
 pub mod Laws
 pub mod Outcomes
 pub use Rattle.ax25_link.specs.Window
-pub use Rattle.ftl0_job.specs.Directory
-pub use Rattle.ftl0_job.specs.Download
-pub use Rattle.ftl0_job.specs.JobState
-pub use Rattle.ftl0_job.specs.Laws as JobLaws
-pub use Rattle.ftl0_job.specs.Short
-pub use Rattle.ftl0_job.specs.Table
-pub use Rattle.ftl0_job.specs.Taking
-pub use Rattle.ftl0_job.specs.Upload
-pub use Rattle.ftl0_job.specs.declared.ending.Ending
-pub use Rattle.ftl0_job.specs.declared.ending.Outcome
-pub use Rattle.ftl0_job.specs.declared.work.Work
+pub use Rattle.ftl0_client_job.specs.Directory
+pub use Rattle.ftl0_client_job.specs.Download
+pub use Rattle.ftl0_client_job.specs.JobState
+pub use Rattle.ftl0_client_job.specs.Laws as JobLaws
+pub use Rattle.ftl0_client_job.specs.Short
+pub use Rattle.ftl0_client_job.specs.Table
+pub use Rattle.ftl0_client_job.specs.Taking
+pub use Rattle.ftl0_client_job.specs.Upload
+pub use Rattle.ftl0_client_job.specs.declared.ending.Ending
+pub use Rattle.ftl0_client_job.specs.declared.ending.Outcome
+pub use Rattle.ftl0_client_job.specs.declared.work.Work
 pub use Rattle.ftl0_packets.specs.Layout

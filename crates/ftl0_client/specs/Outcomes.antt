@@ -1,6 +1,6 @@
 -- What became of what was asked of a client.
 use Rattle.std.specs.Prelude.{Bool, false, Option, None, Some, is_none}
-use Rattle.ftl0_job.specs.declared.ending.Outcome.{Outcome}
+use Rattle.ftl0_client_job.specs.declared.ending.Outcome.{Outcome}
 use Rattle.ftl0_client.specs.Attempt.Attempted.{Attempted, outcome_of}
 
 -- what became of the attempt of what was asked last, if there is one and anything did

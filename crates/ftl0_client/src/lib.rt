@@ -6,6 +6,7 @@
 pub mod attempt;
 mod client;
 pub mod laws;
+pub mod step_laws;
 
 pub use client::Client;
-pub use ftl0_job::{Job, Outcome};
+pub use ftl0_client_job::{Job, Outcome};

@@ -53,7 +53,7 @@ pub use Rattle.ftl0_session.specs.Uploads.Failures.{Failure, failed_reads, faile
 pub use Rattle.ftl0_session.specs.Uploads.Others.{KeepsOtherCallers}
 pub use Rattle.ftl0_session.specs.Uploads.SessionState.{IsHeld, IsOnlyOut, NoOtherOut, Parks, PhaseIsHeld, number_of, state_of}
 pub use Rattle.ftl0_session.specs.declared.uploads.phase.Phase.{Phase}
-pub use Rattle.node.specs.Events.{IsFor, NodeEvent, hears, ticks}
+pub use Rattle.turn_loop.specs.Events.{IsFor, NodeEvent, hears, ticks}
 pub use Rattle.packet_link.proofs.Fronts.{front-none, front-then, front-whole, stations-same, stations-then}
 pub use Rattle.packet_link.specs.PacketLink.{HasFront, PacketLinkState, octets_in}
 pub use Rattle.px_base.specs.CallSign.{CallSign}

@@ -14,7 +14,7 @@ use Rattle.file_store.specs.Store.{Store}
 use Rattle.file_store.specs.Working.{CutsOffAmongReads, DoesAmongReads}
 use Rattle.ftl0_session.specs.Uploads.Failures.{Failure, failed_write}
 use Rattle.disk_model.specs.declared.disk.DiskFault.{DiskFault}
-use Rattle.node.specs.Events.{IsFor, NodeEvent}
+use Rattle.turn_loop.specs.Events.{IsFor, NodeEvent}
 use Rattle.ftl0_server.specs.AtPlace.{KeepsStore}
 use Rattle.ftl0_server.specs.Connection.ConnectionState.{with_reads}
 use Rattle.ftl0_server.specs.Connection.Taking.{fails, goes_on}

@@ -5,7 +5,7 @@ use Rattle.file_store.specs.Command.{Command}
 use Rattle.ftl0_session.specs.Uploads.Failures.{Failure}
 use Rattle.ftl0_server.specs.Connection.Hearing.{LooksAtNone}
 use Rattle.ftl0_server.specs.Connection.Taking.{Halt}
-use Rattle.node.specs.Events.{NodeEvent, hears, ticks}
+use Rattle.turn_loop.specs.Events.{NodeEvent, hears, ticks}
 use Rattle.ftl0_server.specs.Server.{IsSilent, Server, ServerHappened, ServerSends, becoming, server_hearing}
 use Rattle.ftl0_server.specs.Server.{server_next, server_ticking, settled}
 use Rattle.ftl0_server.specs.Slots.{Slot, connected, free, leaving, place_of}

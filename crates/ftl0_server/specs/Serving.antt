@@ -2,7 +2,7 @@
 use Rattle.std.specs.Prelude.{◌≡◌, ℕ, ◌+◌, List, [], ◌∷◌, ◌++◌}
 use Rattle.ax25_frames.specs.FrameText.{FrameValue}
 use Rattle.file_store.specs.Command.{Command, after_all}
-use Rattle.node.specs.Events.{NodeEvent}
+use Rattle.turn_loop.specs.Events.{NodeEvent}
 use Rattle.ftl0_session.specs.Uploads.Failures.{failed_reads}
 use Rattle.ftl0_server.specs.Connection.Taking.{goes_on}
 use Rattle.ftl0_server.specs.Server.{Server}

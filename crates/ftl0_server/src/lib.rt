@@ -8,5 +8,6 @@ pub mod laws;
 mod place;
 mod places;
 mod server;
+pub mod step_laws;
 
 pub use server::{PLACES, Server};

@@ -12,7 +12,7 @@ ghost use Rattle.file_store.specs.Journal.{HasGoodHeader, IsAfterRecovery, journ
 ghost use Rattle.file_store.specs.Recovery.{IsRecovered, LeavesAlikeSinceSync, RefusesRecovery, StandsAlike};
 ghost use Rattle.file_store.specs.State.{IsRead, IsReady, store_in, store_layout, store_magic, store_on};
 ghost use Rattle.file_store.specs.Store.{Store};
-ghost use Rattle.node.specs.Events.{hears, ticks};
+ghost use Rattle.turn_loop.specs.Events.{hears, ticks};
 ghost use Rattle.packet_link.specs.PacketLink.{idle_link};
 ghost use Rattle.ftl0_server.specs.AtPlace.{AllFit};
 ghost use Rattle.ftl0_server.specs.Calls.{AwaitsEvent, AwaitsFrame, AwaitsStranger, HandsOutNext, HearsStranger};

@@ -1,11 +1,11 @@
 //! The cause of an end, told on standard error beside the status.
 
 use crate::help::tell_usage;
-use air_log::meaning_of_code;
 use command_words::{ClientRequest, MakingRequest, RehearseRequest, Request, Words, read};
 use pacsat_cli::{BadStore, RefusedBy, Status};
 use real_outside::SystemError;
 use std::io::{self, ErrorKind};
+use traffic_log::meaning_of_code;
 
 /// How a run ended, and what the system refused last to each part of it.
 #[derive(Clone, Copy)]

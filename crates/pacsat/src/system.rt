@@ -5,7 +5,6 @@ ghost use Rattle.std.specs.declared.io.ErrorKind.TheVariants as reason;
 
 use crate::cause::Ended;
 use crate::help;
-use air_log::{Level, LoggedAir, Watcher};
 use command_words::{ClientRequest, Request, read};
 use pacsat_cli::{Host, NotHeld, Status, Words, WordsRefusal, end_with, fresh_bench, run};
 use px_base::{Air, Call, Out};
@@ -16,6 +15,7 @@ use real_outside::{
 use std::env;
 use std::fs::File;
 use std::io::{ErrorKind, IsTerminal};
+use traffic_log::{Level, LoggedAir, Watcher};
 
 /// The system that the program runs on. It tells none of its calls.
 #[derive(Drop)]

@@ -7,7 +7,7 @@ use Rattle.disk_model.specs.Runs.{Runs}
 use Rattle.uploader.specs.State.{standing_of as notes_standing}
 use Rattle.uploader.specs.Begun.TheVariants as begun
 use Rattle.uploader.specs.declared.stop.SendStop.TheVariants as stop
-use Rattle.node.specs.declared.stop.NodeStop.TheVariants as node
+use Rattle.turn_loop.specs.declared.stop.NodeStop.TheVariants as node
 use Rattle.uploader.specs.OnDisk.{EndsExactly, RefusesNotes}
 use Rattle.pacsat_cli.specs.declared.status.Status.TheVariants as status
 use Rattle.pacsat_cli.proofs.Names.{err_from_is_err_and, codes, Option, None, Some, IfSome, IsTrue, Result, Ok, Err, IsErrAnd, IsErrOf, MatchResult, ⊤, Rose, Holding, NotesCommand, Lists, Begun, NotesRefusal, Outcome, SendStop, FileSum, ClientTerms, Sent, Lent, Seen, Asked, Carries, IsUnrecovered, FetchEnds, KeepsBy, file_asked, ListEnds, ShowsBy, files_asked, IsUnfit, sum_of, EndsAtStart, IsUnloaded, IsUnnoted, IsUnstarted, SendEnds, first_command, last_answer, stop_of_start, turned, AsksClient, AsksFetch, AsksList, AsksSend, numbered_line, Status, Closes, FetchRan, ListRan, SendRan, outside, HasStatusCause, HasDiskCause, HasReadCause, HasWriteCause, MayPassOver, RefusesExactly, is_of_file, may_have_outcome, status_of_end, status_of_stop}

@@ -3,7 +3,7 @@ use Rattle.std.proofs.Common.{◌≡◌, ℕ, refl, ap, sym, ◌∙◌, inl, inr
 use Rattle.uploader.specs.NotesRefusal.TheVariants as refusal
 use Rattle.uploader.specs.StoreFault.{StoreFault}
 use Rattle.uploader.specs.StoreFault.TheVariants as fault
-use Rattle.node.specs.declared.stop.NodeStop.TheVariants as node
+use Rattle.turn_loop.specs.declared.stop.NodeStop.TheVariants as node
 use Rattle.uploader.specs.Turns.Carried.{CountsWhere}
 use Rattle.uploader.specs.declared.stop.SendStop.TheVariants as stop
 use Rattle.uploader.specs.Loading.{is_of_file as is_stop_of_file}

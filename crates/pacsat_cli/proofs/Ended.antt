@@ -2,7 +2,7 @@
 use Rattle.std.proofs.Common.{◌≡◌, ℕ, List, refl, ap, sym, subst, ◌∙◌, inl, inr, Bool, true, false, arith}
 use Rattle.px_base.specs.declared.air.Turn.TheVariants as turn
 use Rattle.server_node.specs.Served.{TurnsBy}
-use Rattle.node.specs.declared.stop.NodeStop.TheVariants as stop
+use Rattle.turn_loop.specs.declared.stop.NodeStop.TheVariants as stop
 use Rattle.pacsat_cli.specs.declared.status.BadStore.TheVariants as bad
 use Rattle.pacsat_cli.specs.declared.status.Status.TheVariants as status
 use Rattle.pacsat_cli.proofs.Names.{Result, Ok, Err, EndsWith, HasEnd, Turn, CountsBy, NodeStop, Served, DiskWord, Fresh, Named, Status, HasStatusCause, HasWriteCause, AsksFresh, AsksStore, IsSpentBy, disk_fault, status_in_memory, status_of}

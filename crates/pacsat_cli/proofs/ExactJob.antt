@@ -3,8 +3,8 @@ use Rattle.std.proofs.Common.{◌≡◌, ℕ, List, [], ◌∷◌, ◌++◌, len
 use Rattle.std.specs.Prelude.{◌⊎◌}
 use Rattle.px_base.specs.declared.air.Turn.TheVariants as turn
 use Rattle.ftl0_client.specs.Outcome.TheVariants as outcome
-use Rattle.node.specs.declared.finished.Finished.TheVariants as finished
-use Rattle.node.specs.declared.stop.NodeStop.TheVariants as node
+use Rattle.turn_loop.specs.declared.finished.Finished.TheVariants as finished
+use Rattle.turn_loop.specs.declared.stop.NodeStop.TheVariants as node
 use Rattle.uploader.specs.declared.stop.SendStop.TheVariants as stop
 use Rattle.pacsat_cli.specs.declared.status.RefusedBy.TheVariants as by_whom
 use Rattle.pacsat_cli.specs.declared.status.Status.TheVariants as status

@@ -9,7 +9,7 @@ use Rattle.file_store.specs.Walk.{state}
 use Rattle.file_store.specs.Store.{Store, empty_store}
 use Rattle.file_store.specs.StoreFault.TheVariants as fault
 use Rattle.server_node.specs.Sessions.SessionRan.{SessionEnds, SessionRan}
-use Rattle.node.specs.declared.stop.NodeStop.TheVariants as stop
+use Rattle.turn_loop.specs.declared.stop.NodeStop.TheVariants as stop
 use Rattle.server_node.specs.declared.terms.SessionTerms.{SessionTerms}
 use Rattle.pacsat_cli.proofs.Names.{Option, Some, IfSome, Result, Err, ⊤, new_state, Ghosts, IsKnown, standing_of, CountsSome, StoreFault, lent, seen, Run, stop_of_fault, HasAirCause, EndsExactly, RefusesSession, NodeStop, Served, OverMemory, status_in_memory, status_of}
 

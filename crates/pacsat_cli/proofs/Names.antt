@@ -21,12 +21,12 @@ pub use Rattle.ftl0_client.specs.Laws.{OneStepLaw}
 pub use Rattle.ftl0_client.specs.Outcome.{Outcome}
 pub use Rattle.header_tool.specs.Faults.{fault_code}
 pub use Rattle.header_tool.specs.Made.{IsMade, IsRefused, MakeValue, made_builder, make_refusal, make_value, or_long}
-pub use Rattle.node.specs.Laws.{OneRunLaw}
-pub use Rattle.node.specs.Lent.{Lent, Seen, lent, seen}
-pub use Rattle.node.specs.Stops.{stop_of_fault}
-pub use Rattle.node.specs.Turns.{TurnsBy}
-pub use Rattle.node.specs.declared.finished.Finished.{Finished}
-pub use Rattle.node.specs.declared.stop.NodeStop.{NodeStop}
+pub use Rattle.turn_loop.specs.Laws.{OneRunLaw}
+pub use Rattle.turn_loop.specs.Lent.{Lent, Seen, lent, seen}
+pub use Rattle.turn_loop.specs.Stops.{stop_of_fault}
+pub use Rattle.turn_loop.specs.Turns.{TurnsBy}
+pub use Rattle.turn_loop.specs.declared.finished.Finished.{Finished}
+pub use Rattle.turn_loop.specs.declared.stop.NodeStop.{NodeStop}
 pub use Rattle.pacsat_cli.specs.Acknowledged.{ServiceStands, SessionStands}
 pub use Rattle.pacsat_cli.specs.Bodies.{BodyEnd, BodyRan, IsBodyOf, OctetsBody, body_fault, body_status}
 pub use Rattle.pacsat_cli.specs.Clients.{ClientRan, Closes, FetchRan, IsUnlisted, ListRan, MayRun, Outside, RunsFetch, RunsList, RunsSend, SendRan, client_terms, outside}

@@ -6,7 +6,7 @@ use Rattle.px_base.specs.declared.air.Air.{Ghosts as AirGhosts}
 use Rattle.file_store.specs.StoreFault.TheVariants as fault
 use Rattle.server_node.specs.OnDisk.{NodeRuns}
 use Rattle.server_node.specs.Served.{TurnsBy}
-use Rattle.node.specs.declared.stop.NodeStop.TheVariants as stop
+use Rattle.turn_loop.specs.declared.stop.NodeStop.TheVariants as stop
 use Rattle.pacsat_cli.specs.declared.status.Status.TheVariants as status
 use Rattle.pacsat_cli.proofs.Names.{or_parts, Option, Some, None, IfSome, Result, Err, IsErrOf, HasEnd, HearsAll, Turn, Ghosts, standing_of, PutsAmongReads, StoreFault, stop_of_fault, CountsBy, EndsExactly, RefusesSession, NodeStop, Served, DiskWord, Fresh, Named, AsksClient, Status, HasStatusCause, AsksFresh, AsksStore, HasDiskCause, HasReadCause, HasWriteCause, IsDoneAtEnd, IsSpentBy, RefusesExactly, status_of, told-same}
 use Rattle.pacsat_cli.proofs.Ended.{damaged-end, disk-end, done_by, heard_by, is_heard_status, mended, not_a_store-end, read_cause, reads_end, spent_by, write_cause}

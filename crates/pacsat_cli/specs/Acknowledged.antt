@@ -1,7 +1,7 @@
 -- What a run of the program acknowledges, where the words ask for a session or a service, stands on its disk.
 use Rattle.std.specs.Prelude.{◌≡◌, ◌⊎◌, ℕ, List}
-use Rattle.node.specs.Lent.{Lent, Seen}
-use Rattle.acknowledged_laws.specs.Acknowledged.{ServerAcknowledges, SessionAcknowledges}
+use Rattle.turn_loop.specs.Lent.{Lent, Seen}
+use Rattle.server_node.specs.Acknowledged.{ServerAcknowledges, SessionAcknowledges}
 use Rattle.command_words.specs.declared.disk.DiskWord.TheVariants.{Named}
 use Rattle.command_words.specs.declared.request.SessionRequest.{SessionRequest}
 use Rattle.command_words.specs.declared.serve.ServeRequest.{ServeRequest}

@@ -9,7 +9,7 @@ use Rattle.px_base.specs.declared.air.Turn.TheVariants as turn
 use Rattle.px_base.specs.declared.shelf.Shelf.{Ghosts as ShelfGhosts}
 use Rattle.disk_model.specs.declared.disk.Disk.{Ghosts}
 use Rattle.file_store.specs.Walk.{state}
-use Rattle.node.specs.Lent.{Lent, Seen}
+use Rattle.turn_loop.specs.Lent.{Lent, Seen}
 use Rattle.uploader.specs.Answers.{IsFull}
 use Rattle.uploader.specs.Command.{NotesCommand}
 use Rattle.uploader.specs.Notes.{Lists}

@@ -1,11 +1,11 @@
 -- What a run of the program did as a server, by its words, by what was heard, and by its disk.
 use Rattle.std.specs.Prelude.{◌≡◌, ◌⊎◌, ℕ, List, ◌++◌, Option, Some, Result, IsErrOf}
 use Rattle.px_base.specs.declared.air.Turn.{Turn}
-use Rattle.node.specs.Lent.{Lent, Seen}
+use Rattle.turn_loop.specs.Lent.{Lent, Seen}
 use Rattle.server_node.specs.OnDisk.{NodeRuns}
 use Rattle.server_node.specs.Stops.{HasAirCause, RefusesSession}
-use Rattle.node.specs.declared.stop.NodeStop.{NodeStop}
-use Rattle.node.specs.declared.stop.NodeStop.TheVariants as stop
+use Rattle.turn_loop.specs.declared.stop.NodeStop.{NodeStop}
+use Rattle.turn_loop.specs.declared.stop.NodeStop.TheVariants as stop
 use Rattle.server_node.specs.declared.terms.Served.{Served}
 use Rattle.server_node.specs.OnAir.Served.{ServerEnds}
 use Rattle.server_node.specs.declared.terms.ServerTerms.{ServerTerms}

@@ -16,13 +16,13 @@ use Rattle.file_store.specs.Store.{empty_store}
 use Rattle.file_store.specs.State.{standing_of}
 use Rattle.file_store.specs.Working.{CountsSome}
 use Rattle.server_node.specs.OnDisk.{NodeRuns}
-use Rattle.node.specs.Lent.{Lent, Seen}
-use Rattle.node.specs.Turns.{IsUnsaid}
+use Rattle.turn_loop.specs.Lent.{Lent, Seen}
+use Rattle.turn_loop.specs.Turns.{IsUnsaid}
 use Rattle.server_node.specs.Served.{Run}
 use Rattle.server_node.specs.Sessions.SessionRan.{SessionEnds, SessionRan}
 use Rattle.server_node.specs.Stops.{HasAirCause, RefusesSession}
-use Rattle.node.specs.declared.stop.NodeStop.{NodeStop}
-use Rattle.node.specs.declared.stop.NodeStop.TheVariants as stop
+use Rattle.turn_loop.specs.declared.stop.NodeStop.{NodeStop}
+use Rattle.turn_loop.specs.declared.stop.NodeStop.TheVariants as stop
 use Rattle.server_node.specs.declared.terms.Served.{Served}
 use Rattle.server_node.specs.declared.terms.SessionTerms.{SessionTerms}
 use Rattle.command_words.specs.declared.disk.DiskWord.{DiskWord}

@@ -1,7 +1,7 @@
 //! The commands `send`, `fetch` and `list`.
 
 ghost use Rattle.std.specs.Prelude.{◌≡◌, ◌≤◌, length};
-ghost use Rattle.node.specs.Lent.{lent, seen};
+ghost use Rattle.turn_loop.specs.Lent.{lent, seen};
 ghost use Rattle.pacsat_cli.specs.Clients.{ClientRan, IsFetched, IsListed, IsSent, MayFetch, MayList, MayRun, MaySend};
 ghost use Rattle.pacsat_cli.specs.Clients.{PutsLine, client_terms, outside};
 ghost use Rattle.pacsat_cli.specs.Status.{numbered_line};

@@ -2,7 +2,7 @@
 
 ghost use Rattle.std.specs.Prelude.{◌≡◌, ◌≤◌, IsSome};
 ghost use Rattle.command_words.specs.Words.{AreInRange};
-ghost use Rattle.node.specs.Lent.{lent, seen};
+ghost use Rattle.turn_loop.specs.Lent.{lent, seen};
 ghost use Rattle.pacsat_cli.specs.Servers.{IsServedOver, serve_terms};
 ghost use Rattle.pacsat_cli.specs.Sessions.{OverMemory, OverNamed, run_terms};
 ghost use Rattle.pacsat_cli.specs.Stops.{status_in_memory, status_of as status_of_session};
@@ -11,10 +11,10 @@ use crate::{BadStore, Status};
 use command_words::{DiskWord, ServeRequest, SessionRequest};
 use disk_model::{Disk, MemoryDisk};
 use file_store::Limits;
-use node::NodeStop;
 use px_base::{Air, Clock, Moment};
 use server_node::{Served, ServerTerms, SessionTerms, serve, session};
 use std::alloc::Global;
+use turn_loop::NodeStop;
 
 /// Serves the session that is asked for, over this disk, or over a fresh one in memory, which leaves this one alone. Takes
 /// memory.

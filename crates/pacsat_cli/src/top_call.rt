@@ -5,7 +5,7 @@ ghost use Rattle.disk_model.specs.Cuts.{AreFresh, cuts_by};
 ghost use Rattle.command_words.specs.Laws.{AsksServe, AsksSession};
 ghost use Rattle.command_words.specs.Words.{AsksList, AsksMake, AsksRehearse, IsUsage, NamesCommand};
 ghost use Rattle.px_base.specs.Outside.{Rose};
-ghost use Rattle.node.specs.Lent.{lent, seen};
+ghost use Rattle.turn_loop.specs.Lent.{lent, seen};
 ghost use Rattle.pacsat_cli.specs.Acknowledged.{ServiceStands, SessionStands};
 ghost use Rattle.pacsat_cli.specs.Clients.{RunsFetch, RunsList, RunsSend, outside};
 ghost use Rattle.pacsat_cli.specs.Exactly.{FetchEndsExactly, ListEndsExactly, SendEndsExactly, SendRefuses};
@@ -27,15 +27,15 @@ use crate::making::run_making;
 use crate::rehearsing::run_rehearsal;
 use crate::serving::{run_serve, run_session};
 use crate::{Status, Words};
-use acknowledged_laws::{server_acknowledges_law, session_acknowledges_law};
 use air_schedule::laws::one_schedule;
 use command_words::laws::one_meaning;
 use command_words::{Refusal, Request};
 use disk_model::{CutDisk, Disk};
 use ftl0_client::laws::{one_step_law, stays_law};
-use node::laws::one_run_law;
 use px_base::{Air, Clock, Out, Shelf};
+use server_node::acknowledged::{server_acknowledges_law, session_acknowledges_law};
 use std::alloc::Global;
+use turn_loop::laws::one_run_law;
 
 /// Does what the words ask for, over this disk, air, shelf, output, clock and bench, and shows the status's line on the
 /// output.

@@ -2,9 +2,9 @@
 use Rattle.std.proofs.Common.{◌≡◌, ℕ, length, refl, ap, sym, ◌∙◌, true}
 use Rattle.std.specs.Prelude.{Option, None, Some}
 use Rattle.std.specs.Option.{option_map}
-use Rattle.file_entries.specs.declared.info.Info.{Info}
-use Rattle.file_entries.specs.Info.{IsCompleteIn, info_of}
-use Rattle.file_entries.specs.Store.{Entry, Store, entry_of, octets_at}
+use Rattle.file_store_model.specs.declared.info.Info.{Info}
+use Rattle.file_store_model.specs.Info.{IsCompleteIn, info_of}
+use Rattle.file_store_model.specs.Store.{Entry, Store, entry_of, octets_at}
 
 info-same : (a b : Info) → Some a ≡ Some b → a ≡ b
 info-same a b e = cc

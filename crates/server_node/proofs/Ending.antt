@@ -11,14 +11,14 @@ use Rattle.file_journal.proofs.Offered.{known_told, recovers_on, runs_same}
 use Rattle.disk_model.proofs.Offered.{runs_among, runs_missed}
 use Rattle.server_node.proofs.Names.{AnswersRecovery, AtDisk, Command, Course, CutsOffAmongReads, DoesAmongReads, Ends, EndsOver, Finished, Ghosts, HasAirCause, IsBeforeTurns, IsButLast, IsKnown, IsNotOver, IsRead, IsReadOn, IsRecovered, Lent, LentParty, Made, MomentsOf, NodeHasCause, NodeStop, NodeTurnsBy, PutsAmongReads, RanBy, RefusesSession, Run, Seen, Served, Steps, StoppedInLast, StopsBehind, Store, StoreState, TakesAll, TookAll, TookTurns, Turn, TurnTerms, TurnsBy, at_told, common_steps, cuts-among-all, if_told, known_on, lent, made, party_at, served_by, stands-through, store_form, store_layout, store_magic, store_on, told_weaker}
 use Rattle.server_node.proofs.StepsLemmas.{DidOnDisk}
-use Rattle.node.specs.Stops.{stop_of_fault}
+use Rattle.turn_loop.specs.Stops.{stop_of_fault}
 use Rattle.std.proofs.lemmas.Result.{err_from_is_err_and}
 use Rattle.file_store.specs.IsStore.{IsStore}
 use Rattle.file_store.specs.Journal.{HasGoodHeader, IsAfterRecovery, journal_of}
 use Rattle.file_store.specs.StoreFault.{StoreFault}
-use Rattle.node.specs.declared.stop.NodeStop.TheVariants as stop
+use Rattle.turn_loop.specs.declared.stop.NodeStop.TheVariants as stop
 use Rattle.file_store.specs.StoreFault.TheVariants as fault
-use Rattle.node.specs.declared.finished.Finished.TheVariants as finished
+use Rattle.turn_loop.specs.declared.finished.Finished.TheVariants as finished
 
 -- what the clauses of serving say
 pub record Serves {A C D : Type 0} (seen : Seen D A C) (blocks : ℕ) (given : Option ℕ) (Ran : Result Served NodeStop → Store → Run → Type 0) (old new : Lent D A C) (result : Result Served NodeStop) : Type 0 where

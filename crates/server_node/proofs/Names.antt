@@ -22,15 +22,15 @@ pub use Rattle.ftl0_session.specs.Run.{Event as MetEvent, RunsOver, Session, hea
 pub use Rattle.ftl0_session.specs.SessionState.{SessionState, caller_of, state_in}
 pub use Rattle.ftl0_session.specs.Taking.{TakesPacket, Working, row_over, working}
 pub use Rattle.ftl0_session.specs.Uploads.Events.{Brings, Event, at_moment, packet_of}
-pub use Rattle.node.proofs.InputLemmas.{are-octets, octets_in-append, octets_in-at}
-pub use Rattle.node.specs.Course.{AtDisk, Course, GaveAll, GivesNext, IsLawful, at, stop_at_put, stop_of}
-pub use Rattle.node.specs.Events.{NodeEvent, NodeEvents, hears, ticks}
-pub use Rattle.node.specs.Inputs.{Input, IsInput, inputs_of, inputs_since, octet, octets_at, octets_in, tick, turn_inputs, turn_tick}
-pub use Rattle.node.specs.Lent.{Lent, Seen, lent, seen}
-pub use Rattle.node.specs.Turns.{AreHandedOver, HasAirCause as NodeHasCause, LentParty, MomentsFrom, RanBy, StoppedInLast, TookAll, TookTurns, TurnsBy as NodeTurnsBy, lent_party, party_at}
-pub use Rattle.node.specs.declared.finished.Finished.{Finished}
-pub use Rattle.node.specs.declared.stop.NodeStop.{NodeStop}
-pub use Rattle.node.specs.declared.terms.TurnTerms.{TurnTerms}
+pub use Rattle.turn_loop.proofs.InputLemmas.{are-octets, octets_in-append, octets_in-at}
+pub use Rattle.turn_loop.specs.Course.{AtDisk, Course, GaveAll, GivesNext, IsLawful, at, stop_at_put, stop_of}
+pub use Rattle.turn_loop.specs.Events.{NodeEvent, NodeEvents, hears, ticks}
+pub use Rattle.turn_loop.specs.Inputs.{Input, IsInput, inputs_of, inputs_since, octet, octets_at, octets_in, tick, turn_inputs, turn_tick}
+pub use Rattle.turn_loop.specs.Lent.{Lent, Seen, lent, seen}
+pub use Rattle.turn_loop.specs.Turns.{AreHandedOver, HasAirCause as NodeHasCause, LentParty, MomentsFrom, RanBy, StoppedInLast, TookAll, TookTurns, TurnsBy as NodeTurnsBy, lent_party, party_at}
+pub use Rattle.turn_loop.specs.declared.finished.Finished.{Finished}
+pub use Rattle.turn_loop.specs.declared.stop.NodeStop.{NodeStop}
+pub use Rattle.turn_loop.specs.declared.terms.TurnTerms.{TurnTerms}
 pub use Rattle.px_base.specs.CallSign.{CallSign}
 pub use Rattle.px_base.specs.Moments.{MomentsOf}
 pub use Rattle.px_base.specs.Octets.{IsFront, IsOctets}

@@ -2,7 +2,7 @@
 -- known what octets the store's files have.
 use Rattle.std.proofs.Common.{◌≡◌, inl, inr, ℕ, ◌+◌, List, [], ◌∷◌, ◌++◌, Bool, refl, ap, sym, ◌∙◌, append_assoc, arith, Option, None, Some, Result, Ok, Err, IsErr, IsErrOf}
 use Rattle.disk_model.specs.declared.halt.Halt.TheVariants as halt
-use Rattle.node.specs.declared.stop.NodeStop.TheVariants as stop
+use Rattle.turn_loop.specs.declared.stop.NodeStop.TheVariants as stop
 use Rattle.server_node.proofs.Names.{AtDisk, Command, CutsOffAmongReads, DiskFault, Does-none, DoesAmongReads, EndsOver, FailsBy, Ghosts, Halt, IsKnown, IsReady, Made, NodeStop, PutsAmongReads, RunsOn, RunsTo, Served, Service, Steps, StopsBehind, StopsOn, StopsOver, StopsTo, StoreState, TakesAll, add_assoc, among-then, at, both, common_steps, cuts-among-none, cuts-among-same, cuts-among-then, does-among, known-or-not, known_on, made, puts-among, puts-among-same, puts-among-then, puts_none, stop_at_put, store_at, ⊤}
 
 -- no events make nothing, and events and others behind them what both make

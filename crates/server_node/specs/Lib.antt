@@ -1,3 +1,4 @@
+pub mod Acknowledged
 pub mod OnAir
 pub mod OnDisk
 pub mod Served

@@ -18,14 +18,14 @@ use Rattle.file_store.specs.Store.{Store}
 use Rattle.file_store.specs.Walk.{state}
 use Rattle.file_store.specs.Working.{CountsSome, PutsAmongReads}
 use Rattle.file_store.specs.StoreFault.{StoreFault}
-use Rattle.node.specs.Lent.{Lent, Seen}
-use Rattle.node.specs.Turns.{IsUnsaid}
-use Rattle.node.specs.declared.stop.NodeStop.{NodeStop}
-use Rattle.node.specs.declared.stop.NodeStop.TheVariants as stop
+use Rattle.turn_loop.specs.Lent.{Lent, Seen}
+use Rattle.turn_loop.specs.Turns.{IsUnsaid}
+use Rattle.turn_loop.specs.declared.stop.NodeStop.{NodeStop}
+use Rattle.turn_loop.specs.declared.stop.NodeStop.TheVariants as stop
 use Rattle.server_node.specs.declared.terms.Served.{Served}
 use Rattle.server_node.specs.OnDisk.{LeavesStanding}
 use Rattle.server_node.specs.Steps.{Made}
-use Rattle.node.specs.Stops.{stop_of_fault}
+use Rattle.turn_loop.specs.Stops.{stop_of_fault}
 
 -- The turns, of which there are at most so many, by how the serving ended. Want of memory doesn't end them, nor does a
 -- recovery that is refused.

@@ -3,10 +3,10 @@ use Rattle.std.specs.Prelude.{◌≡◌, ◌≢◌, ◌↔◌, ℕ, ◌≤◌, L
 use Rattle.px_base.specs.Outside.{Rose}
 use Rattle.file_store.specs.Walk.{damaged_at, no_store}
 use Rattle.file_store.specs.State.{standing_of}
-use Rattle.node.specs.declared.finished.Finished.{Finished}
-use Rattle.node.specs.declared.finished.Finished.TheVariants as finished
-use Rattle.node.specs.declared.stop.NodeStop.{NodeStop}
-use Rattle.node.specs.declared.stop.NodeStop.TheVariants as stop
+use Rattle.turn_loop.specs.declared.finished.Finished.{Finished}
+use Rattle.turn_loop.specs.declared.finished.Finished.TheVariants as finished
+use Rattle.turn_loop.specs.declared.stop.NodeStop.{NodeStop}
+use Rattle.turn_loop.specs.declared.stop.NodeStop.TheVariants as stop
 use Rattle.server_node.specs.declared.terms.Served.{Served}
 
 -- It took turns until the air closed, or stopped: it was never over.

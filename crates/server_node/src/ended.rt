@@ -4,7 +4,7 @@ ghost use Rattle.std.specs.Prelude.{◌≡◌};
 ghost use Rattle.server_node.specs.Stops.{IsNotOver, served_by};
 
 use crate::{NodeStop, Served};
-use node::Finished;
+use turn_loop::Finished;
 
 /// How the serving ended, by how the turns of its node did. It was never over before them.
 pub(crate) fn answer_of(ended: Result<Finished, NodeStop>) -> Result<Served, NodeStop>

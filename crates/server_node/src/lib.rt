@@ -2,13 +2,14 @@
 //! the disk of its store.
 #![tactic(auto)]
 
+pub mod acknowledged;
 mod ended;
 pub mod laws;
 mod on_air;
 mod sessions;
 mod terms;
 
-pub use node::NodeStop;
 pub use on_air::serve;
 pub use sessions::session;
 pub use terms::{Served, ServerTerms, SessionTerms};
+pub use turn_loop::NodeStop;

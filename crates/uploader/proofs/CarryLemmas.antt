@@ -1,9 +1,9 @@
 -- What carrying out a job comes to, and what its outcomes are to the command that asked for it.
 use Rattle.std.proofs.Common.{inl, ◌≡◌, ℕ, Bool, true, false, List, [], ◌++◌, refl, sym, ◌∙◌, ap, subst, append-nil, Option, None, Some, IfSome, Result, Ok, Err, IfErr, IsErrOf, ◌≢◌, IfOk, ◌≤◌, length, arith}
 use Rattle.client_notes.specs.Laws.{after_all}
-use Rattle.node.specs.Turns as turns
-use Rattle.node.specs.declared.finished.Finished.TheVariants as finished
-use Rattle.node.specs.declared.stop.NodeStop.TheVariants as node
+use Rattle.turn_loop.specs.Turns as turns
+use Rattle.turn_loop.specs.declared.finished.Finished.TheVariants as finished
+use Rattle.turn_loop.specs.declared.stop.NodeStop.TheVariants as node
 use Rattle.ftl0_client.specs.Outcome.TheVariants as outcome
 use Rattle.uploader.specs.declared.stop.SendStop.TheVariants as stop
 use Rattle.uploader.specs.Causes.{HasAirCause}

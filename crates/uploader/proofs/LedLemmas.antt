@@ -1,7 +1,7 @@
 -- A command that carried out a job comes to what the definition makes of it over all that was heard.
 use Rattle.std.proofs.Common.{◌≡◌, ℕ, List, [], ◌∷◌, ◌++◌, refl, ap, sym, subst, ◌∙◌, inl, inr, Bool, true, false, append_assoc, ◌≢◌, Option, None, Some, Result, Ok, Err, map}
-use Rattle.node.specs.declared.finished.Finished.TheVariants as finished
-use Rattle.node.specs.declared.stop.NodeStop.TheVariants as node
+use Rattle.turn_loop.specs.declared.finished.Finished.TheVariants as finished
+use Rattle.turn_loop.specs.declared.stop.NodeStop.TheVariants as node
 use Rattle.uploader.proofs.Names.{append_cancel_left, AllByRecursion, Grows, Turn, FrameValue, NodeEvent, NodeEvents, OneRunLaw, Seen, TurnsBy, Finished, NotesCommand, JobState, Client, ClientEvent, asks, AsksNothing, GoesOver, StaysLaw, OneStepLaw, outcome_by, Outcome, EndsOver, asked_first, before_last, StopsBehind, TakesAll, event_of, NodeStop, SendStop, client_of, answer_of, by_outcome, stop_of_turns}
 use Rattle.uploader.proofs.turns.CourseLemmas.{goes-alike, goes-append, goes-one, nothing-asked}
 use Rattle.uploader.specs.Led.{ComesBy, IsCutShort, LedLaw, is_of_turns}

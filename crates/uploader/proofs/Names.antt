@@ -24,13 +24,13 @@ pub use Rattle.ftl0_client.specs.Outcomes.{is_under_way, outcome_by}
 pub use Rattle.ftl0_client.specs.Table.{JobState, job_row, listing_of, new_job}
 pub use Rattle.ftl0_client.specs.Upload.{Upload, new_upload}
 pub use Rattle.ftl0_client.specs.Outcome.{Outcome}
-pub use Rattle.node.specs.Course.{AtDisk, GaveAll, GivesNext, IsLawful, at, stop_at_put, stop_of}
-pub use Rattle.node.specs.Events.{NodeEvent, NodeEvents, ticks}
-pub use Rattle.node.specs.Laws.{OneRunLaw}
-pub use Rattle.node.specs.Lent.{Lent, Seen, lent, seen}
-pub use Rattle.node.specs.Turns.{Brought, HasAirCause, IsUnsaid, LentParty, RanBy, StoppedInLast, TookAll, TookTurns, TurnsBy, lent_party, party_at}
-pub use Rattle.node.specs.declared.finished.Finished.{Finished}
-pub use Rattle.node.specs.declared.stop.NodeStop.{NodeStop}
+pub use Rattle.turn_loop.specs.Course.{AtDisk, GaveAll, GivesNext, IsLawful, at, stop_at_put, stop_of}
+pub use Rattle.turn_loop.specs.Events.{NodeEvent, NodeEvents, ticks}
+pub use Rattle.turn_loop.specs.Laws.{OneRunLaw}
+pub use Rattle.turn_loop.specs.Lent.{Lent, Seen, lent, seen}
+pub use Rattle.turn_loop.specs.Turns.{Brought, HasAirCause, IsUnsaid, LentParty, RanBy, StoppedInLast, TookAll, TookTurns, TurnsBy, lent_party, party_at}
+pub use Rattle.turn_loop.specs.declared.finished.Finished.{Finished}
+pub use Rattle.turn_loop.specs.declared.stop.NodeStop.{NodeStop}
 pub use Rattle.pfh_reader.specs.Faults.{fault_code}
 pub use Rattle.px_base.proofs.Told.{Gains-none, Gains-trans, GainsPrefix-after, Grows-none}
 pub use Rattle.px_base.specs.CallSign.{CallSign}

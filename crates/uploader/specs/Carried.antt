@@ -1,8 +1,8 @@
 -- What a client's command does over its disk, air and clock: the notes are recovered, and a job is carried out.
 use Rattle.std.specs.Prelude.{◌≡◌, ℕ, List, [], ◌++◌, IfSome, Result, Err, IsErrOf, ⊤}
 use Rattle.disk_model.specs.declared.disk.Disk.{Ghosts}
-use Rattle.node.specs.Lent.{Lent, Seen}
-use Rattle.node.specs.declared.stop.NodeStop.TheVariants as node
+use Rattle.turn_loop.specs.Lent.{Lent, Seen}
+use Rattle.turn_loop.specs.declared.stop.NodeStop.TheVariants as node
 use Rattle.disk_model.specs.Runs.{TakesStep}
 use Rattle.file_journal.specs.Journal.{IsAfterRecovery}
 use Rattle.file_journal.specs.declared.layout.Layout.TheVariants as layout

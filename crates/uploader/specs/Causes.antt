@@ -2,7 +2,7 @@
 use Rattle.std.specs.Prelude.{◌≡◌, ℕ, Bool, true, false, IfErr, IsErrOf, Result}
 use Rattle.px_base.specs.Outside.{Rose}
 use Rattle.disk_model.specs.Runs.{Runs}
-use Rattle.node.specs.Lent.{Lent, Seen}
+use Rattle.turn_loop.specs.Lent.{Lent, Seen}
 use Rattle.uploader.specs.declared.stop.SendStop.{SendStop}
 use Rattle.uploader.specs.declared.stop.SendStop.TheVariants as stop
 

@@ -2,7 +2,7 @@
 use Rattle.std.specs.Prelude.{◌≡◌, ◌⊎◌, ℕ, List, [], Option, None, IfOk, IsErrAnd, MatchResult, Result, Ok, Err, ⊤}
 use Rattle.px_base.specs.Shelves.{Holding, Keeps, KeepsOthers}
 use Rattle.pfh_reader.specs.Faults.{fault_code}
-use Rattle.node.specs.Lent.{Lent, Seen}
+use Rattle.turn_loop.specs.Lent.{Lent, Seen}
 use Rattle.client_notes.specs.Laws.{after_all}
 use Rattle.client_notes.specs.Notes.{Lists, got_of}
 use Rattle.ftl0_client.specs.Work.TheVariants as work

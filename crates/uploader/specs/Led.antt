@@ -2,13 +2,13 @@
 use Rattle.std.specs.Prelude.{◌≡◌, ◌⊎◌, ℕ, List, ◌++◌, Bool, true, false, Option, None, Some, Result, Ok, Err}
 use Rattle.px_base.specs.declared.air.Turn.{Turn}
 use Rattle.ax25_frames.specs.FrameText.{FrameValue}
-use Rattle.node.specs.Events.{NodeEvent, NodeEvents}
-use Rattle.node.specs.Lent.{Lent, Seen}
-use Rattle.node.specs.Turns.{TurnsBy}
-use Rattle.node.specs.declared.finished.Finished.{Finished}
-use Rattle.node.specs.declared.finished.Finished.TheVariants as finished
-use Rattle.node.specs.declared.stop.NodeStop.{NodeStop}
-use Rattle.node.specs.declared.stop.NodeStop.TheVariants as node
+use Rattle.turn_loop.specs.Events.{NodeEvent, NodeEvents}
+use Rattle.turn_loop.specs.Lent.{Lent, Seen}
+use Rattle.turn_loop.specs.Turns.{TurnsBy}
+use Rattle.turn_loop.specs.declared.finished.Finished.{Finished}
+use Rattle.turn_loop.specs.declared.finished.Finished.TheVariants as finished
+use Rattle.turn_loop.specs.declared.stop.NodeStop.{NodeStop}
+use Rattle.turn_loop.specs.declared.stop.NodeStop.TheVariants as node
 use Rattle.client_notes.specs.Command.{NotesCommand}
 use Rattle.ftl0_client.specs.Table.{JobState}
 use Rattle.ftl0_client.specs.Client.{Client}

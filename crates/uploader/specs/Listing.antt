@@ -1,7 +1,7 @@
 -- How `list` ends.
 use Rattle.std.specs.Prelude.{◌≡◌, ◌⊎◌, ℕ, List, [], true, Option, IfOk, IsErrAnd, MatchResult, Result, Ok, Err, ⊤}
 use Rattle.px_base.specs.Outside.{Gains, GainsPrefix}
-use Rattle.node.specs.Lent.{Lent, Seen}
+use Rattle.turn_loop.specs.Lent.{Lent, Seen}
 use Rattle.client_notes.specs.Notes.{Lists}
 use Rattle.ftl0_client.specs.Work.TheVariants as work
 use Rattle.ftl0_client.specs.Directory.{new_directory}

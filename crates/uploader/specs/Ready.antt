@@ -1,8 +1,8 @@
 -- What the commands share: a client whose notes were recovered, and a job that it is asked for.
 use Rattle.std.specs.Prelude.{◌≡◌, ℕ, MatchResult, Result, Ok, Err, ⊤}
 use Rattle.disk_model.specs.declared.disk.Disk.{Ghosts}
-use Rattle.node.specs.Lent.{Seen}
-use Rattle.node.specs.Turns.{LentParty}
+use Rattle.turn_loop.specs.Lent.{Seen}
+use Rattle.turn_loop.specs.Turns.{LentParty}
 use Rattle.client_notes.specs.Recovery.{AnswersRecovery, Recovers}
 use Rattle.client_notes.specs.StoreFault.{StoreFault}
 use Rattle.ftl0_client.specs.Work.{Work}

@@ -3,7 +3,7 @@ use Rattle.std.specs.Prelude.{◌≡◌, ◌⊎◌, ℕ, ◌+◌, List, [], ◌�
 use Rattle.std.specs.Prelude.{MatchResult, Result, Ok, Err}
 use Rattle.px_base.specs.Shelves.{Holding, content_of}
 use Rattle.disk_model.specs.declared.disk.Disk.{Ghosts}
-use Rattle.node.specs.Lent.{Lent, Seen}
+use Rattle.turn_loop.specs.Lent.{Lent, Seen}
 use Rattle.file_journal.specs.Through.{CountsWrites, StandsThrough}
 use Rattle.client_notes.specs.Answers.{IsFull, answer_of, fresh_task}
 use Rattle.client_notes.specs.Command.{NotesCommand}

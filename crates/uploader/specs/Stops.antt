@@ -8,9 +8,9 @@ use Rattle.client_notes.specs.StoreFault.{StoreFault}
 use Rattle.client_notes.specs.StoreFault.TheVariants as fault
 use Rattle.ftl0_client.specs.Outcome.{Outcome}
 use Rattle.ftl0_client.specs.Outcome.TheVariants as outcome
-use Rattle.node.specs.declared.finished.Finished.{Finished}
-use Rattle.node.specs.declared.stop.NodeStop.{NodeStop}
-use Rattle.node.specs.declared.stop.NodeStop.TheVariants as node
+use Rattle.turn_loop.specs.declared.finished.Finished.{Finished}
+use Rattle.turn_loop.specs.declared.stop.NodeStop.{NodeStop}
+use Rattle.turn_loop.specs.declared.stop.NodeStop.TheVariants as node
 use Rattle.uploader.specs.declared.stop.SendStop.{SendStop}
 use Rattle.uploader.specs.declared.stop.SendStop.TheVariants as stop
 use Rattle.uploader.specs.declared.sum.FileSum.{FileSum}

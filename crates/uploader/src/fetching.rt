@@ -4,7 +4,7 @@ ghost use Rattle.std.specs.Prelude.{◌≡◌, ◌≤◌, IsErrOf, MatchResult};
 ghost use Rattle.px_base.specs.Shelves.{Keeps, KeepsOthers};
 ghost use Rattle.ftl0_client.specs.Window.{IsGoodK};
 ghost use Rattle.disk_model.specs.Runs.{CountsFault};
-ghost use Rattle.node.specs.Lent.{lent, seen};
+ghost use Rattle.turn_loop.specs.Lent.{lent, seen};
 ghost use Rattle.uploader.specs.Causes.{HasCauses};
 ghost use Rattle.uploader.specs.Fetching.{FetchEnds, file_asked};
 ghost use Rattle.uploader.specs.OnDisk.{RefusesNotes};

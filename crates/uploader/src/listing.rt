@@ -4,7 +4,7 @@ ghost use Rattle.std.specs.Prelude.{◌≡◌, ◌≤◌, length, IsErrOf, Match
 ghost use Rattle.px_base.specs.Outside.{Gains, GainsPrefix, HasCause};
 ghost use Rattle.ftl0_client.specs.Window.{IsGoodK};
 ghost use Rattle.disk_model.specs.Runs.{CountsFault};
-ghost use Rattle.node.specs.Lent.{lent, seen};
+ghost use Rattle.turn_loop.specs.Lent.{lent, seen};
 ghost use Rattle.uploader.specs.Causes.{HasCauses};
 ghost use Rattle.uploader.specs.Lines.{listing_lines};
 ghost use Rattle.uploader.specs.Listing.{ListEnds, files_asked};

@@ -2,8 +2,8 @@
 
 ghost use Rattle.std.specs.Prelude.{◌≡◌, ◌≤◌, length};
 ghost use Rattle.ftl0_client.specs.Window.{IsGoodK};
-ghost use Rattle.node.specs.Lent.{lent, seen};
-ghost use Rattle.node.specs.Turns.{lent_party};
+ghost use Rattle.turn_loop.specs.Lent.{lent, seen};
+ghost use Rattle.turn_loop.specs.Turns.{lent_party};
 ghost use Rattle.uploader.specs.Causes.{HasCauses};
 ghost use Rattle.uploader.specs.Loading.{HasShelfCause, IsPastFile, RefusesFile};
 ghost use Rattle.uploader.specs.OnDisk.{RefusesNotes};

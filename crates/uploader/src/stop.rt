@@ -5,9 +5,9 @@ ghost use Rattle.uploader.specs.Stops.{stop_of_fault, stop_of_load, stop_of_node
 
 use crate::FileSum;
 use client_notes::StoreFault;
-use node::NodeStop;
 use px_base::ShelfRefusal;
 use thiserror::Error;
+use turn_loop::NodeStop;
 
 /// Why a client's command stopped before it did what it says.
 #[derive(Clone, Copy, Debug, PartialEq, Eq, Error)]

@@ -2,9 +2,9 @@
 use Rattle.std.proofs.Common.{◌≡◌, ℕ, ◌+◌, ◌-◌, List, [], ◌∷◌, ◌++◌, length, refl, ap, sym, ◌∙◌, subst, arith}
 use Rattle.std.proofs.Common.{append_assoc, append-nil, length-append}
 use Rattle.client_notes.specs.State.{StandsFor}
-use Rattle.ftl0_job.specs.declared.ending.Outcome.TheVariants as outcome
-use Rattle.ftl0_job.specs.declared.work.Work.TheVariants as work
-use Rattle.ftl0_job.specs.Upload.{Upload, upload_row}
+use Rattle.ftl0_client_job.specs.declared.ending.Outcome.TheVariants as outcome
+use Rattle.ftl0_client_job.specs.declared.work.Work.TheVariants as work
+use Rattle.ftl0_client_job.specs.Upload.{Upload, upload_row}
 use Rattle.ftl0_client.proofs.Names.{Option, None, Some, Ok, Err, Item, PacketValue, NotesCommand, acked, AreAllowed, after_all, Lists, after_first, AreAllowed-split, after_first-then, Ending, GoBy, HasTask, Acknowledges, reached, Row, strange, job_row, new_job, row_of, acknowledged, job-in, stays-item, upload-rows, UploadRows, AckedLaw, AcknowledgesIn}
 use Rattle.ftl0_client.proofs.attempt.ReachedLemmas.{reaches}
 

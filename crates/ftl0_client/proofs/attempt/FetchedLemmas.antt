@@ -1,9 +1,9 @@
 -- What a download that comes to the outcome that its file was fetched noted.
 use Rattle.std.proofs.Common.{◌≡◌, ℕ, List, [], ◌++◌, refl, sym, ◌∙◌, subst}
-use Rattle.ftl0_job.specs.Faults.{fault_code}
-use Rattle.ftl0_job.specs.declared.ending.Outcome.TheVariants as outcome
-use Rattle.ftl0_job.specs.declared.work.Work.TheVariants as work
-use Rattle.ftl0_job.specs.Download.{Download, download_row}
+use Rattle.ftl0_client_job.specs.Faults.{fault_code}
+use Rattle.ftl0_client_job.specs.declared.ending.Outcome.TheVariants as outcome
+use Rattle.ftl0_client_job.specs.declared.work.Work.TheVariants as work
+use Rattle.ftl0_client_job.specs.Download.{Download, download_row}
 use Rattle.ftl0_client.proofs.Names.{Option, None, Some, Ok, Err, CallSign, Item, PacketValue, NotesCommand, after_all, Lists, got_of, after_all-append, Ending, GoBy, HasGot, reached, Row, strange, job_row, new_job, row_of, download-rows, DownloadRows, fetched, job-in, stays-item, FetchedLaw, IsFetchedBy}
 use Rattle.ftl0_client.proofs.attempt.ReachedLemmas.{reaches}
 

@@ -3,7 +3,7 @@ use Rattle.std.proofs.Common.{inl, ◌≡◌, List, ◌++◌, take, drop, refl, 
 use Rattle.std.proofs.lemmas.List.{take-append-drop}
 use Rattle.disk_model.specs.Runs.{Leaves}
 use Rattle.disk_model.specs.declared.halt.Halt.TheVariants as stop
-use Rattle.ftl0_job.specs.Noting.{HasNoted}
+use Rattle.ftl0_client_job.specs.Noting.{HasNoted}
 use Rattle.ftl0_client.proofs.Names.{Option, Result, Ok, Err, ⊤, FrameValue, Ghosts, Heard, Tells, after_frame, heard_of, Window, Item, makes-longer, puts_on, puts_same, Several-then, told_weaker, weaker, NotesCommand, after_all, Lists, DoesSeveral, MakesFirst, NotesState, Halt, job_row, WithNotes, with_notes, Attempted, AttemptState, HearsBy, IsAttempt, PutsBy, StopsAmong, after_hearing, after_told, packets_heard, packets_told, with_end, Happened, taking, StopsBy, Client, client_hearing, hearing_by, ClientState}
 use Rattle.ftl0_client.proofs.attempt.TakingLemmas.{noted-front}
 

@@ -1,7 +1,7 @@
 -- How an event comes to an outcome, packet by packet.
 use Rattle.std.proofs.Common.{◌≡◌, ℕ, Bool, true, false, List, [], ◌∷◌, ◌++◌, refl, ap, sym, ◌∙◌, subst}
-use Rattle.ftl0_job.specs.declared.ending.Outcome.{Outcome}
-use Rattle.ftl0_job.specs.declared.ending.Outcome.TheVariants as outcome
+use Rattle.ftl0_client_job.specs.declared.ending.Outcome.{Outcome}
+use Rattle.ftl0_client_job.specs.declared.ending.Outcome.TheVariants as outcome
 use Rattle.ftl0_client.proofs.Names.{Option, None, Some, option_map, same_Some, FrameValue, Why, after_frame, heard_of, Window, kind_of_item, texts, Item, fits, NotesCommand, after_all, Lists, Ending, Work, DuePacket, due_by, in_job, work_due, reached, Row, strange_ending, JobState, job_after, job_row, new_job, row_of, Attempted, outcome_by, outcome_of, after_hearing, hearing, packets_heard, with_end, settled, Happened, after_replies, answering, taking, taking_by, taking_one}
 use Rattle.ftl0_client.proofs.attempt.EndedLemmas.{taking-ended, told-job}
 use Rattle.ftl0_client.proofs.attempt.SettlingLemmas.{settled-keeps}

@@ -1,7 +1,7 @@
 -- What stands of an attempt stands after each event, and once something became of it nothing more is noted.
 use Rattle.std.proofs.Common.{◌≡◌, ℕ, Bool, true, false, List, [], ◌∷◌, refl, ap, sym, ◌∙◌, subst}
-use Rattle.ftl0_job.specs.declared.ending.Outcome.TheVariants as outcome
-use Rattle.ftl0_job.specs.declared.work.Work.TheVariants as work
+use Rattle.ftl0_client_job.specs.declared.ending.Outcome.TheVariants as outcome
+use Rattle.ftl0_client_job.specs.declared.work.Work.TheVariants as work
 use Rattle.ftl0_client.proofs.Names.{Option, None, Some, Heard, Why, heard_of_tick, after_frame, heard_of, after_tick, told_of_tick, kind_of_item, texts, Item, fits, NotesCommand, after_all, Lists, after_all-append, Ending, Work, BegunLaw, DueLaw, PromisesLaw, JobStands, WorkPromises, Row, JobState, job_after, job_row, listing_of, Attempted, outcome_by, after_hearing, after_ticking, after_told, hearing, packets_heard, packets_told, with_end, CallingLaw, QuietLaw, StandsLaw, settled, Happened, after_replies, taking, taking_by, taking_one}
 use Rattle.ftl0_client.proofs.attempt.DownLemmas.{outcome-law, still-silent}
 use Rattle.ftl0_client.proofs.attempt.EndedLemmas.{stays-law, told-job}

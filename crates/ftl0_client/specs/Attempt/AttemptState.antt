@@ -13,10 +13,10 @@ use Rattle.client_notes.specs.Several.{DoesSeveral, MakesFirst}
 use Rattle.client_notes.specs.State.{NotesState, StandsOn}
 use Rattle.disk_model.specs.declared.halt.Halt.{Halt}
 use Rattle.disk_model.specs.declared.halt.Halt.TheVariants as stop
-use Rattle.ftl0_job.specs.JobState.{MayTake}
-use Rattle.ftl0_job.specs.Noting.{HasNoted}
-use Rattle.ftl0_job.specs.Table.{JobState}
-use Rattle.ftl0_job.specs.Taking.{StopsAt, WithNotes, row_over, with_notes}
+use Rattle.ftl0_client_job.specs.JobState.{MayTake}
+use Rattle.ftl0_client_job.specs.Noting.{HasNoted}
+use Rattle.ftl0_client_job.specs.Table.{JobState}
+use Rattle.ftl0_client_job.specs.Taking.{StopsAt, WithNotes, row_over, with_notes}
 use Rattle.ftl0_client.specs.Attempt.Attempted.{Attempted}
 use Rattle.ftl0_client.specs.Attempt.Hearing.{after_hearing, hearing, packets_heard}
 use Rattle.ftl0_client.specs.Attempt.Taking.{Happened, taking}

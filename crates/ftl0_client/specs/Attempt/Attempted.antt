@@ -5,10 +5,10 @@ use Rattle.std.specs.Prelude.{ℕ, List, [], Option, None, Some}
 use Rattle.px_base.specs.CallSign.{CallSign}
 use Rattle.ax25_link.specs.declared.state.Why.{Why}
 use Rattle.ax25_link.specs.Ends.{LinkEnd, calling_end}
-use Rattle.ftl0_job.specs.declared.ending.Ending.{Ending}
-use Rattle.ftl0_job.specs.declared.ending.Outcome.{Outcome}
-use Rattle.ftl0_job.specs.declared.ending.Outcome.TheVariants.{LinkDown}
-use Rattle.ftl0_job.specs.Table.{JobState}
+use Rattle.ftl0_client_job.specs.declared.ending.Ending.{Ending}
+use Rattle.ftl0_client_job.specs.declared.ending.Outcome.{Outcome}
+use Rattle.ftl0_client_job.specs.declared.ending.Outcome.TheVariants.{LinkDown}
+use Rattle.ftl0_client_job.specs.Table.{JobState}
 
 -- the client's end of the link; the octets that were accepted and of which no packet was taken yet; the job; and why
 -- the link went down, where it did before the job had an outcome

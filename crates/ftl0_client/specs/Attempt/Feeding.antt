@@ -14,10 +14,10 @@ use Rattle.packet_link.specs.Queuing.{enough_free, fits}
 use Rattle.client_notes.specs.Notes.{Lists}
 use Rattle.client_notes.specs.Several.{DoesSeveral}
 use Rattle.disk_model.specs.declared.halt.Halt.{Halt}
-use Rattle.ftl0_job.specs.Due.{DuePacket, next_due}
-use Rattle.ftl0_job.specs.JobState.{MayTake, NotesGoWith}
-use Rattle.ftl0_job.specs.Table.{JobState}
-use Rattle.ftl0_job.specs.Taking.{with_notes}
+use Rattle.ftl0_client_job.specs.Due.{DuePacket, next_due}
+use Rattle.ftl0_client_job.specs.JobState.{MayTake, NotesGoWith}
+use Rattle.ftl0_client_job.specs.Table.{JobState}
+use Rattle.ftl0_client_job.specs.Taking.{with_notes}
 use Rattle.ftl0_client.specs.Attempt.Attempted.{Attempted}
 use Rattle.ftl0_client.specs.Attempt.AttemptState.{AttemptState, StopsAtPacket, Working}
 use Rattle.ftl0_client.specs.Attempt.Taking.{Happened, after_replies, parting, replied, taking}

@@ -12,7 +12,7 @@ use Rattle.ax25_link.specs.Window.{Window}
 use Rattle.ftl0_packets.specs.Layout.{Item}
 use Rattle.ftl0_packets.specs.Reading.{packets_of, rest_of}
 use Rattle.client_notes.specs.Notes.{Lists}
-use Rattle.ftl0_job.specs.declared.ending.Ending.{Ending}
+use Rattle.ftl0_client_job.specs.declared.ending.Ending.{Ending}
 use Rattle.ftl0_client.specs.Attempt.Attempted.{Attempted}
 use Rattle.ftl0_client.specs.Attempt.Settling.{settled}
 use Rattle.ftl0_client.specs.Attempt.Taking.{Happened, taking}

@@ -8,22 +8,22 @@ use Rattle.ax25_link.specs.Ends.{free_octets}
 use Rattle.ax25_link.specs.Window.{Window}
 use Rattle.packet_link.specs.Queuing.{enough_free}
 use Rattle.client_notes.specs.Command.{NotesCommand, acked}
-use Rattle.ftl0_job.specs.Faults.{fault_code}
+use Rattle.ftl0_client_job.specs.Faults.{fault_code}
 use Rattle.client_notes.specs.Laws.{AreAllowed, after_all}
 use Rattle.client_notes.specs.Notes.{Lists, got_of}
 use Rattle.client_notes.specs.Several.{MakesBetween}
-use Rattle.ftl0_job.specs.declared.ending.Ending.{Ending}
-use Rattle.ftl0_job.specs.declared.ending.Outcome.{Outcome}
-use Rattle.ftl0_job.specs.declared.ending.Outcome.TheVariants as outcome
-use Rattle.ftl0_job.specs.declared.work.Work.{Work}
-use Rattle.ftl0_job.specs.declared.work.Work.TheVariants as work
-use Rattle.ftl0_job.specs.Download.{Download}
-use Rattle.ftl0_job.specs.Due.{next_due}
-use Rattle.ftl0_job.specs.JobState.{HasGot, HasTask, IsNew, NotesGoWith}
-use Rattle.ftl0_job.specs.Laws.{IsAckedIn}
-use Rattle.ftl0_job.specs.Promises.{JobStands}
-use Rattle.ftl0_job.specs.Table.{JobState, new_job}
-use Rattle.ftl0_job.specs.Upload.{Upload}
+use Rattle.ftl0_client_job.specs.declared.ending.Ending.{Ending}
+use Rattle.ftl0_client_job.specs.declared.ending.Outcome.{Outcome}
+use Rattle.ftl0_client_job.specs.declared.ending.Outcome.TheVariants as outcome
+use Rattle.ftl0_client_job.specs.declared.work.Work.{Work}
+use Rattle.ftl0_client_job.specs.declared.work.Work.TheVariants as work
+use Rattle.ftl0_client_job.specs.Download.{Download}
+use Rattle.ftl0_client_job.specs.Due.{next_due}
+use Rattle.ftl0_client_job.specs.JobState.{HasGot, HasTask, IsNew, NotesGoWith}
+use Rattle.ftl0_client_job.specs.Laws.{IsAckedIn}
+use Rattle.ftl0_client_job.specs.Promises.{JobStands}
+use Rattle.ftl0_client_job.specs.Table.{JobState, new_job}
+use Rattle.ftl0_client_job.specs.Upload.{Upload}
 use Rattle.ftl0_client.specs.Attempt.Attempted.{Attempted, calling, outcome_of}
 use Rattle.ftl0_client.specs.Attempt.Hearing.{hearing, ticking}
 use Rattle.ftl0_client.specs.Attempt.Settling.{settled}

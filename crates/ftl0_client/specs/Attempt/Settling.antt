@@ -6,9 +6,9 @@ use Rattle.ax25_link.specs.Ends.{LinkEnd, free_octets, most_held}
 use Rattle.ax25_link.specs.Timer.{is_up}
 use Rattle.ftl0_packets.specs.Layout.{packet_text}
 use Rattle.packet_link.specs.Queuing.{filling}
-use Rattle.ftl0_job.specs.declared.ending.Ending.{Ending}
-use Rattle.ftl0_job.specs.Due.{DuePacket, next_due}
-use Rattle.ftl0_job.specs.Table.{JobState}
+use Rattle.ftl0_client_job.specs.declared.ending.Ending.{Ending}
+use Rattle.ftl0_client_job.specs.Due.{DuePacket, next_due}
+use Rattle.ftl0_client_job.specs.Table.{JobState}
 use Rattle.ftl0_client.specs.Attempt.Attempted.{Attempted}
 
 -- a packet that is due was queued

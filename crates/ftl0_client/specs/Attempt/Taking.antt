@@ -9,10 +9,10 @@ use Rattle.packet_link.specs.Queuing.{fits}
 use Rattle.client_notes.specs.Command.{NotesCommand}
 use Rattle.client_notes.specs.Laws.{after_all}
 use Rattle.client_notes.specs.Notes.{Lists}
-use Rattle.ftl0_job.specs.declared.ending.Ending.{Ending}
-use Rattle.ftl0_job.specs.declared.work.Work.{Work}
-use Rattle.ftl0_job.specs.Row.{Row, strange_ending}
-use Rattle.ftl0_job.specs.Table.{JobState, job_after, job_row}
+use Rattle.ftl0_client_job.specs.declared.ending.Ending.{Ending}
+use Rattle.ftl0_client_job.specs.declared.work.Work.{Work}
+use Rattle.ftl0_client_job.specs.Row.{Row, strange_ending}
+use Rattle.ftl0_client_job.specs.Table.{JobState, job_after, job_row}
 use Rattle.ftl0_client.specs.Attempt.Attempted.{Attempted}
 
 -- the end after replies of this text: they are queued where they fit, and else nothing of them is

@@ -29,7 +29,7 @@ pub fn stands_law()
     ensures calling { CallingLaw }
     ensures stays { StandsLaw }
 {
-    ftl0_job::laws::promises_law();
+    ftl0_client_job::laws::promises_law();
 }
 
 /// An upload comes to the outcome that its file was acknowledged only by a frame of which that is noted, in every image

@@ -1,10 +1,10 @@
 //! Rows of what a station hears.
 
 use anyhow::Result;
-use node::StationReader;
 use px_base::Call;
 use row_words::{read_octets, text_of, two_parts};
 use std::alloc::Global;
+use turn_loop::StationReader;
 
 /// `hears CALL OCTETS`
 pub fn hears(alloc: Global, row: &str) -> Result<String> {

@@ -2,8 +2,8 @@
 
 ghost use Rattle.std.specs.Prelude.{◌≡◌, Some, false, true};
 ghost use Rattle.std.specs.Option.{option_map};
-ghost use Rattle.file_entries.specs.Info.{info_of};
-ghost use Rattle.file_entries.specs.Store.{entry_of};
+ghost use Rattle.file_store_model.specs.Info.{info_of};
+ghost use Rattle.file_store_model.specs.Store.{entry_of};
 ghost use Rattle.file_store.specs.State.{IsReady, store_in};
 
 use crate::air::exchange::Got;

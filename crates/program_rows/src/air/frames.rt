@@ -3,7 +3,7 @@
 ghost use Rattle.std.specs.Prelude.{IfSome};
 ghost use Rattle.ax25_frames.specs.Kinds.{FitsControl};
 ghost use Rattle.ax25_frames.specs.Values.{value_of};
-ghost use Rattle.node.specs.Events.{IsFor};
+ghost use Rattle.turn_loop.specs.Events.{IsFor};
 
 use ax25_frames::{Frame, read_frame};
 use px_base::Call;

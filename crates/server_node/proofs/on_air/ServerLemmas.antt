@@ -17,7 +17,7 @@ use Rattle.server_node.proofs.StepsLemmas.{AreSteps, DidOnDisk, did-all, did-sto
 use Rattle.server_node.specs.declared.terms.ServerTerms.{ServerTerms}
 use Rattle.server_node.specs.OnAir.Served.{ServerRan, server_from}
 use Rattle.server_node.proofs.Ending.{Came, Recovers, Serves, Stopped, Taken, but_last, came-by, served}
-use Rattle.node.specs.declared.stop.NodeStop.TheVariants as stop
+use Rattle.turn_loop.specs.declared.stop.NodeStop.TheVariants as stop
 
 -- a server goes over its events one after another
 pub are_steps : AreSteps server_steps

@@ -16,7 +16,7 @@ use Rattle.ftl0_session.proofs.WorkingLemmas.{Sent, due-among, told-append, take
 use Rattle.server_node.specs.declared.sessions.server.SessionServer.TheInside.{Inside}
 use Rattle.std.specs.Option.{option_map}
 use Rattle.disk_model.specs.declared.halt.Halt.TheVariants as halt
-use Rattle.node.specs.declared.stop.NodeStop.TheVariants as stop
+use Rattle.turn_loop.specs.declared.stop.NodeStop.TheVariants as stop
 
 -- a session goes over its events one after another
 pub are_steps : (caller : CallSign) → AreSteps (session_steps caller)

@@ -1,7 +1,7 @@
 -- A session by the turns of its node.
 use Rattle.std.proofs.Common.{◌≡◌, ap, sym, ◌∙◌, subst, ◌⊎◌, inl, inr, ℕ, max, List, [], ◌∷◌, ◌++◌, length, Option, Some, Result, Err, refl, ap₂, append_assoc, append-nil, arith, None, IsErrOf}
 use Rattle.px_base.proofs.Told.{Grows-trans}
-use Rattle.node.specs.declared.stop.NodeStop.TheVariants as stop
+use Rattle.turn_loop.specs.declared.stop.NodeStop.TheVariants as stop
 use Rattle.server_node.specs.declared.terms.SessionTerms.{SessionTerms}
 use Rattle.server_node.proofs.Names.{AreHandedOver, AtDisk, Brings, CallSign, Event, Finished, Ghosts, GoesOver, HaltsOver, HasAirCause, Input, IsButLast, IsGreeted, IsKnown, IsOctets, IsUngreeted, LentParty, MomentsFrom, MomentsOf, NodeStop, Run, Seen, Served, ServerState, Service, Session, SessionRan, Steps, StopsOn, Store, StoreState, TookTurns, Turn, TurnTerms, TurnsBy, at, brings-init, brings-more, brings-stream, common_steps, cuts-among-none, events_to, first_session, inputs_of, known_on, lent, login_text, new_server, nil_from_length, nothing_partial, octets_in, party_at, puts-among-same, served_by, session_course, session_service, session_steps, store_on, waiting_behind}
 use Rattle.server_node.proofs.Ending.{Came, Recovers, Serves, Stopped, Taken, append-none, but_last, came-by, run_of, served}

@@ -5,10 +5,10 @@ use Rattle.file_store.specs.State.{IsKnown}
 use Rattle.file_store.specs.Store.{Store}
 use Rattle.ftl0_server.specs.Server.{Server, new_server}
 use Rattle.ftl0_server.specs.Window.{window_of}
-use Rattle.node.specs.Events.{NodeEvent, NodeEvents}
-use Rattle.node.specs.Lent.{Lent, Seen}
+use Rattle.turn_loop.specs.Events.{NodeEvent, NodeEvents}
+use Rattle.turn_loop.specs.Lent.{Lent, Seen}
 use Rattle.px_base.specs.Polling.{IsButLast}
-use Rattle.node.specs.declared.stop.NodeStop.{NodeStop}
+use Rattle.turn_loop.specs.declared.stop.NodeStop.{NodeStop}
 use Rattle.server_node.specs.declared.terms.Served.{Served}
 use Rattle.server_node.specs.declared.terms.ServerTerms.{ServerTerms}
 use Rattle.server_node.specs.Served.{Ends, Run, TurnsBy}

@@ -7,10 +7,10 @@ use Rattle.ax25_frames.specs.FrameText.{FrameValue}
 use Rattle.file_store.specs.State.{IsKnown, IsReady, store_on}
 use Rattle.file_store.specs.Store.{Store}
 use Rattle.file_store.specs.Working.{PutsAmongReads}
-use Rattle.node.specs.Course.{AtDisk, Course, at, stop_at_put, stop_of}
-use Rattle.node.specs.Events.{NodeEvent}
+use Rattle.turn_loop.specs.Course.{AtDisk, Course, at, stop_at_put, stop_of}
+use Rattle.turn_loop.specs.Events.{NodeEvent}
 use Rattle.disk_model.specs.declared.halt.Halt.{Halt}
-use Rattle.node.specs.declared.stop.NodeStop.TheVariants as stop
+use Rattle.turn_loop.specs.declared.stop.NodeStop.TheVariants as stop
 use Rattle.ftl0_server.specs.Calls.{AwaitsEvent}
 use Rattle.ftl0_server.specs.Server.{IsSilent, Server, settled}
 use Rattle.ftl0_server.specs.ServerState.{IsServer, SendsFor, ServerState, server_most}

@@ -15,12 +15,12 @@ use Rattle.ftl0_session.specs.Run.{Event as MetEvent, Session, event_row}
 use Rattle.ftl0_session.specs.Answering.{IsAnswering, met_with, octets_left}
 use Rattle.ftl0_session.specs.Downloads.Sending.{is_due}
 use Rattle.ftl0_session.specs.Table.{Row, State, download_part, failed_reads_told, fault_reply}
-use Rattle.node.specs.Course.{AtDisk, Course, at}
-use Rattle.node.specs.Inputs.{Input, octets_in}
+use Rattle.turn_loop.specs.Course.{AtDisk, Course, at}
+use Rattle.turn_loop.specs.Inputs.{Input, octets_in}
 use Rattle.disk_model.specs.declared.halt.Halt.{Halt}
 use Rattle.disk_model.specs.declared.halt.Halt.TheVariants as halt
-use Rattle.node.specs.declared.stop.NodeStop.{NodeStop}
-use Rattle.node.specs.declared.stop.NodeStop.TheVariants as stop
+use Rattle.turn_loop.specs.declared.stop.NodeStop.{NodeStop}
+use Rattle.turn_loop.specs.declared.stop.NodeStop.TheVariants as stop
 use Rattle.server_node.specs.Sessions.Packets.{Hears, events_to}
 use Rattle.server_node.specs.Sessions.Running.{session_steps}
 use Rattle.server_node.specs.Steps.{RunsOn, Service, StopsOn}

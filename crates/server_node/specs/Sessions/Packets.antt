@@ -3,7 +3,7 @@ use Rattle.std.specs.Prelude.{◌≡◌, ℕ, List, [], ◌∷◌, ◌++◌}
 use Rattle.px_base.specs.Octets.{IsOctets}
 use Rattle.ftl0_packets.specs.Reading.{packets_of, rest_of}
 use Rattle.ftl0_session.specs.Uploads.Events.{Event, at_moment}
-use Rattle.node.specs.Inputs.{Input, octet, octets_in, tick}
+use Rattle.turn_loop.specs.Inputs.{Input, octet, octets_in, tick}
 use Rattle.server_node.specs.Sessions.ServerState.{ServerState}
 
 -- the packets that are finished by what is handed over behind these octets that wait; ticks bring nothing

@@ -10,8 +10,8 @@ use Rattle.ftl0_session.specs.Uploads.Events.{Event}
 use Rattle.ftl0_session.specs.Answering.{SendsSome}
 use Rattle.ftl0_session.specs.Run.{Event as MetEvent, RunsOver, Session, event_row, heard_of}
 use Rattle.ftl0_session.specs.Table.{Row, command, failed_reads_told, fault_reply}
-use Rattle.node.specs.declared.stop.NodeStop.{NodeStop}
-use Rattle.node.specs.declared.stop.NodeStop.TheVariants as stop
+use Rattle.turn_loop.specs.declared.stop.NodeStop.{NodeStop}
+use Rattle.turn_loop.specs.declared.stop.NodeStop.TheVariants as stop
 use Rattle.server_node.specs.Steps.{Made, Steps}
 
 -- The text was said whole; or, where a put failed, a front of it was.

@@ -9,9 +9,9 @@ use Rattle.ftl0_session.specs.Uploads.Events.{Brings, Event, packets_in}
 use Rattle.ftl0_session.specs.Table.{greeting}
 use Rattle.file_store.specs.State.{IsKnown}
 use Rattle.file_store.specs.Store.{Store}
-use Rattle.node.specs.Lent.{Lent, Seen}
-use Rattle.node.specs.declared.stop.NodeStop.{NodeStop}
-use Rattle.node.specs.declared.stop.NodeStop.TheVariants as stop
+use Rattle.turn_loop.specs.Lent.{Lent, Seen}
+use Rattle.turn_loop.specs.declared.stop.NodeStop.{NodeStop}
+use Rattle.turn_loop.specs.declared.stop.NodeStop.TheVariants as stop
 use Rattle.server_node.specs.declared.terms.Served.{Served}
 use Rattle.server_node.specs.declared.terms.SessionTerms.{SessionTerms}
 use Rattle.server_node.specs.Served.{Ends, Run, TurnsBy}

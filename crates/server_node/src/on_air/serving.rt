@@ -2,7 +2,7 @@
 
 ghost use Rattle.std.specs.Prelude.{◌≤◌, IsErrOf};
 ghost use Rattle.ftl0_server.specs.Window.{IsGoodK};
-ghost use Rattle.node.specs.Lent.{lent, seen};
+ghost use Rattle.turn_loop.specs.Lent.{lent, seen};
 ghost use Rattle.server_node.specs.OnAir.Served.{ServerEnds};
 ghost use Rattle.server_node.specs.OnDisk.{NodeRuns};
 ghost use Rattle.server_node.specs.Served.{IsBeforeTurns};
@@ -13,9 +13,9 @@ use crate::on_air::station::ServerStation;
 use crate::{NodeStop, Served, ServerTerms};
 use disk_model::Disk;
 use ftl0_server::Server;
-use node::{TurnTerms, drive};
 use px_base::{Air, Clock};
 use std::alloc::Global;
+use turn_loop::{TurnTerms, drive};
 
 /// Serves up to eight sessions on the air. The store is recovered from the disk first, and the lists are made; where
 /// either is refused nothing is heard or said, and the clock isn't asked. Then come turns, up to the end of the air or

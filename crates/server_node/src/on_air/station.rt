@@ -8,8 +8,8 @@ use ax25_frames::Frame;
 use disk_model::Disk;
 use ftl0_server::Server;
 use ftl0_server::laws::empties_law;
-use node::{NodeStop, Station};
 use px_base::Moment;
+use turn_loop::{NodeStop, Station};
 
 /// A server as a station. It must be closed, which parks all uploads.
 pub(crate) struct ServerStation {

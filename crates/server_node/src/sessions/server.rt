@@ -12,9 +12,9 @@ use file_store::FileStore;
 use ftl0_packets::{PacketFed, PacketReader};
 use ftl0_session::lists::Lists;
 use ftl0_session::{Replies, Session};
-use node::{NodeStop, Party};
 use px_base::{Call, Moment};
 use std::marker::Model;
+use turn_loop::{NodeStop, Party};
 
 /// What serves one session: the reader of its packets, its state, the store, the lists of all callers, and what it
 /// has to say first. It must be ended, which parks the session's upload. Contracts see it as a `ServerState`.

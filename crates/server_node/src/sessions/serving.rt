@@ -1,7 +1,7 @@
 //! The session of one caller, from the recovery of its store to its end.
 
 ghost use Rattle.std.specs.Prelude.{◌≡◌, ◌≤◌, [], ◌∷◌, IsErrOf, IsSome};
-ghost use Rattle.node.specs.Lent.{lent, seen};
+ghost use Rattle.turn_loop.specs.Lent.{lent, seen};
 ghost use Rattle.px_base.specs.Moments.{MomentsOf};
 ghost use Rattle.server_node.specs.OnDisk.{NodeRuns};
 ghost use Rattle.server_node.specs.Served.{IsBeforeTurns};
@@ -15,9 +15,9 @@ use disk_model::Disk;
 use file_store::FileStore;
 use file_store::laws::state_law;
 use ftl0_session::lists::Lists;
-use node::{TurnTerms, take_turns};
 use px_base::{Air, Clock, Moment};
 use std::alloc::Global;
+use turn_loop::{TurnTerms, take_turns};
 
 /// Serves one session over FTL0 octets without a link. The store is recovered from the disk first, and the lists are
 /// made; where either is refused nothing is heard or said, and the clock isn't asked. Then LOGIN_RESP is said, and

@@ -2,8 +2,8 @@
 use Rattle.std.proofs.Common.{◌≡◌, ◌⊎◌, ℕ, List, [], ◌∷◌, ◌++◌, length, Bool, false, true, Result, Ok, Err, refl, ap, sym, subst, ◌∙◌, inl, inr, suc, arith, append-nil, ◌≢◌, None, IsErrOf}
 use Rattle.px_base.specs.Octets.{IsFront}
 use Rattle.px_base.specs.Polling.{IsButLast}
-use Rattle.node.specs.declared.finished.Finished.TheVariants as finished
-use Rattle.node.specs.declared.stop.NodeStop.TheVariants as stop
+use Rattle.turn_loop.specs.declared.finished.Finished.TheVariants as finished
+use Rattle.turn_loop.specs.declared.stop.NodeStop.TheVariants as stop
 use Rattle.uploader.specs.declared.stop.SendStop.TheVariants as send_stop
 use Rattle.uploader.proofs.Names.{Option, Turn, Gains-none, Grows-none, Ghosts, NotesCommand, Lists, IsReady, NotesState, AtDisk, at, NodeEvent, NodeEvents, OneRunLaw, Seen, Brought, HasAirCause, IsUnsaid, LentParty, RanBy, StoppedInLast, TookAll, TookTurns, TurnsBy, lent_party, party_at, Finished, NodeStop, HasAsked, Client, ClientEvent, IsSilent, asking, asks, ClientState, IsClient, MayHear, outcome_in, GoesLaw, GoesOver, is_over, IsNew, NotesGoWith, OneStepLaw, outcome_by, JobState, Outcome, SendStop, answer_of, CutsOff, CarriesOut, ClientRan, CountsWhere, EndsOver, IsOpenBeforeEach, MayCarryOut, Run, asked_first, before_last, StopsBehind, StopsOver, TakesAll, text_of, CameOf, CameToSome, Past, StoppedAt, client_course, further, ClientStation, cuts-none, does-nothing}
 use Rattle.uploader.proofs.turns.CourseLemmas.{came-silent, came-whole, closed-done, closed-over, goes-alike, no-split, owes-more, promised, tells-of}

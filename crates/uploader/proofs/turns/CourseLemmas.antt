@@ -5,8 +5,8 @@ use Rattle.std.specs.Prelude.{is_none}
 use Rattle.std.proofs.lemmas.List.Concat.{flat_map-append}
 use Rattle.kiss.specs.KissText.{kiss_text}
 use Rattle.ftl0_client.specs.ClientStep.{ClientStep, Empties, happening}
-use Rattle.node.specs.declared.stop.NodeStop.TheVariants as stop
-use Rattle.node.specs.Events as node
+use Rattle.turn_loop.specs.declared.stop.NodeStop.TheVariants as stop
+use Rattle.turn_loop.specs.Events as node
 use Rattle.ftl0_client.specs.Attempt.Attempted.{Attempted}
 use Rattle.uploader.specs.Turns.Came.{listing_by, TellsOf}
 use Rattle.std.proofs.lemmas.Option.{same_Some}

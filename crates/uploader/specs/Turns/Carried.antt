@@ -11,13 +11,13 @@ use Rattle.client_notes.specs.Command.{NotesCommand}
 use Rattle.client_notes.specs.Notes.{Lists}
 use Rattle.client_notes.specs.State.{IsReady}
 use Rattle.client_notes.specs.Several.{CutsOff}
-use Rattle.node.specs.Events.{NodeEvent, NodeEvents}
-use Rattle.node.specs.Lent.{Seen}
-use Rattle.node.specs.Turns.{LentParty, TurnsBy}
-use Rattle.node.specs.declared.finished.Finished.{Finished}
-use Rattle.node.specs.declared.finished.Finished.TheVariants as finished
-use Rattle.node.specs.declared.stop.NodeStop.{NodeStop}
-use Rattle.node.specs.declared.stop.NodeStop.TheVariants as stop
+use Rattle.turn_loop.specs.Events.{NodeEvent, NodeEvents}
+use Rattle.turn_loop.specs.Lent.{Seen}
+use Rattle.turn_loop.specs.Turns.{LentParty, TurnsBy}
+use Rattle.turn_loop.specs.declared.finished.Finished.{Finished}
+use Rattle.turn_loop.specs.declared.finished.Finished.TheVariants as finished
+use Rattle.turn_loop.specs.declared.stop.NodeStop.{NodeStop}
+use Rattle.turn_loop.specs.declared.stop.NodeStop.TheVariants as stop
 use Rattle.ftl0_client.specs.Table.{JobState}
 use Rattle.ftl0_client.specs.Client.{Client, ClientEvent, asks}
 use Rattle.ftl0_client.specs.ClientState.{ClientState, IsFree, IsOwn, client_pending, listing_in}

@@ -3,11 +3,11 @@ use Rattle.std.specs.Prelude.{◌≡◌, ◌≢◌, ℕ, List, [], ◌∷◌, �
 use Rattle.px_base.specs.Octets.{IsFront}
 use Rattle.ax25_frames.specs.FrameText.{FrameValue}
 use Rattle.client_notes.specs.Command.{NotesCommand}
-use Rattle.node.specs.Events as node
-use Rattle.node.specs.Events.{NodeEvent}
-pub use Rattle.node.specs.Said.{text_of}
-use Rattle.node.specs.declared.stop.NodeStop.{NodeStop}
-use Rattle.node.specs.declared.stop.NodeStop.TheVariants as stop
+use Rattle.turn_loop.specs.Events as node
+use Rattle.turn_loop.specs.Events.{NodeEvent}
+pub use Rattle.turn_loop.specs.Said.{text_of}
+use Rattle.turn_loop.specs.declared.stop.NodeStop.{NodeStop}
+use Rattle.turn_loop.specs.declared.stop.NodeStop.TheVariants as stop
 use Rattle.ftl0_client.specs.Client.{Client, ClientEvent, asks, hears, ticks}
 use Rattle.ftl0_client.specs.ClientStep.{ClientStep, happening}
 use Rattle.ftl0_client.specs.Outcome.{Outcome}

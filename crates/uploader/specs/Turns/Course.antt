@@ -5,12 +5,12 @@ use Rattle.disk_model.specs.declared.disk.Disk.{Ghosts}
 use Rattle.ax25_frames.specs.FrameText.{FrameValue}
 use Rattle.client_notes.specs.Command.{NotesCommand}
 use Rattle.client_notes.specs.Several.{CutsOff, DoesSeveral}
-use Rattle.node.specs.Course.{AtDisk, Course, stop_of}
-use Rattle.node.specs.Events.{NodeEvent}
-use Rattle.node.specs.declared.finished.Finished.{Finished}
+use Rattle.turn_loop.specs.Course.{AtDisk, Course, stop_of}
+use Rattle.turn_loop.specs.Events.{NodeEvent}
+use Rattle.turn_loop.specs.declared.finished.Finished.{Finished}
 use Rattle.disk_model.specs.declared.halt.Halt.{Halt}
-use Rattle.node.specs.declared.stop.NodeStop.{NodeStop}
-use Rattle.node.specs.declared.stop.NodeStop.TheVariants as stop
+use Rattle.turn_loop.specs.declared.stop.NodeStop.{NodeStop}
+use Rattle.turn_loop.specs.declared.stop.NodeStop.TheVariants as stop
 use Rattle.ftl0_client.specs.Client.{Client, ClientEvent, IsSilent}
 use Rattle.ftl0_client.specs.ClientState.{ClientState, IsClient, MayHear, client_closed, client_most, client_pending}
 use Rattle.ftl0_client.specs.ClientState.{listing_in, outcome_in}

@@ -1,8 +1,8 @@
 //! One job of a client is carried out.
 
 ghost use Rattle.std.specs.Prelude.{◌≡◌};
-ghost use Rattle.node.specs.Lent.{seen};
-ghost use Rattle.node.specs.Turns.{lent_party};
+ghost use Rattle.turn_loop.specs.Lent.{seen};
+ghost use Rattle.turn_loop.specs.Turns.{lent_party};
 ghost use Rattle.ftl0_client.specs.Client.{Client as ClientValue};
 ghost use Rattle.ftl0_client.specs.ClientState.{IsClient};
 ghost use Rattle.uploader.specs.Stops.{answer_of, stop_of_turns};
@@ -13,12 +13,12 @@ use crate::SendStop;
 use disk_model::Disk;
 use ftl0_client::laws::{goes_law, one_step_law};
 use ftl0_client::{Client, Job, Outcome};
-use node::laws::one_run_law;
-use node::{Finished, NodeStop, TurnTerms, drive};
 use px_base::{Air, Clock};
 use std::alloc::Global;
+use turn_loop::laws::one_run_law;
+use turn_loop::{Finished, NodeStop, TurnTerms, drive};
 
-/// Asks the client for a job, as [`Client::ask`] does, and takes turns, as [`node::drive`] does, until the client is
+/// Asks the client for a job, as [`Client::ask`] does, and takes turns, as [`turn_loop::drive`] does, until the client is
 /// closed, or as many polls were made as may be; gives the client back. Its SABM is put before the first turn. What a
 /// frame notes is on the disk before any of its frames is put. Takes memory.
 ///

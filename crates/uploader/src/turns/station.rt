@@ -9,8 +9,8 @@ use ax25_frames::Frame;
 use disk_model::Disk;
 use ftl0_client::Client;
 use ftl0_client::laws::{empties_law, goes_law};
-use node::{NodeStop, Station};
 use px_base::Moment;
+use turn_loop::{NodeStop, Station};
 
 /// A client as a station: it hears frames for its call, and keeps no moments. Once a frame halted it, because the disk
 /// failed or there was no memory, it sends nothing.

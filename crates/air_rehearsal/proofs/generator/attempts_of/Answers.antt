@@ -1,6 +1,6 @@
 -- By the client of the number.
 use Rattle.std.proofs.Common.{◌%◌, ◌^◌, length, sym, ap}
-use Rattle.air_attempt.specs.Party.{Party}
+use Rattle.air_world.specs.Attempts.Party.{Party}
 use Rattle.air_rehearsal.proofs.Names.{Option, option_map_or}
 use Rattle.air_rehearsal.proofs.NumberedLemmas.{attempts-here, none-here}
 use Rattle.air_rehearsal.proofs.generator.attempts_of.Goals as goal

@@ -1,6 +1,6 @@
 -- By the client of the number.
 use Rattle.std.proofs.Common.{length, sym, ap}
-use Rattle.air_attempt.specs.Party.{Party}
+use Rattle.air_world.specs.Attempts.Party.{Party}
 use Rattle.air_rehearsal.proofs.Names.{Option, option_and_then, option_map_or, Attempt, newest}
 use Rattle.air_rehearsal.proofs.NumberedLemmas.{none-here, to-server-here}
 use Rattle.air_rehearsal.proofs.generator.count_to_server.Goals as goal

@@ -1,6 +1,6 @@
 -- What the client of the number is asked for.
 use Rattle.std.proofs.Common.{rules, ◌≡◌, ◌≤◌, ◌%◌, ℕ, Option, None, Some, refl, sym, ap, subst, ◌∙◌}
-use Rattle.air_attempt.specs.Party.{Party}
+use Rattle.air_world.specs.Attempts.Party.{Party}
 use Rattle.air_rehearsal.proofs.Names.{min, option_map, option_map_or, event_value, ask_download, ask_upload, Draw, next_number, none_drawn, state_after, wish_of, Seat}
 use Rattle.air_rehearsal.proofs.AllowedLemmas.{has-party}
 use Rattle.air_rehearsal.proofs.NumberedLemmas.{none-here}

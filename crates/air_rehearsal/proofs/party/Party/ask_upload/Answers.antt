@@ -1,8 +1,8 @@
 -- The task of the file is begun, and then its upload is asked.
 use Rattle.std.proofs.Common.{sym, subst, ap, ◌∙◌, List, ℕ}
-use Rattle.ftl0_job.specs.declared.work.Work.TheVariants as work
-use Rattle.ftl0_job.specs.Table.{new_job}
-use Rattle.ftl0_job.specs.Upload.{new_upload}
+use Rattle.ftl0_client_job.specs.declared.work.Work.TheVariants as work
+use Rattle.ftl0_client_job.specs.Table.{new_job}
+use Rattle.ftl0_client_job.specs.Upload.{new_upload}
 use Rattle.air_rehearsal.proofs.Names.{AsksNext}
 use Rattle.air_rehearsal.proofs.PartLemmas.{ok_then}
 use Rattle.air_rehearsal.proofs.UploadLemmas.{begins_upload}

@@ -1,7 +1,7 @@
 -- A part without a command of the notes leaves the disk, on which they stand.
 use Rattle.std.proofs.Common.{◌≡◌, ◌∙◌, ⊎_elim, ℕ, [], ap, refl, subst, sym, Ok}
 use Rattle.px_base.specs.declared.file_bytes.FileBytes.{FileBytes}
-use Rattle.air_attempt.specs.Party.{Party}
+use Rattle.air_world.specs.Attempts.Party.{Party}
 use Rattle.air_rehearsal.specs.declared.part.Part.TheVariants as stored
 use Rattle.air_rehearsal.proofs.Names.{⊤, Err, Result, Ghosts, Halt, EachImage, Lists, NotesState, StandsFor, client_commands, ClientPart, HasLanes, lanes_of, TouchesPart, IsPart, IsSeat, Seat, Part, Party as StoredParty}
 use Rattle.air_rehearsal.proofs.PartLemmas.{touches_none}

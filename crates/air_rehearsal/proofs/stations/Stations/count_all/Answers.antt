@@ -1,7 +1,7 @@
 -- The tasks of one client more are counted.
 use Rattle.std.proofs.Common.{◌≡◌, ℕ, zero, suc, ◌+◌, ◌<◌, List, [], ◌∷◌, ◌++◌, length, take, Some, sym, ap, subst, ◌∙◌, arith}
 use Rattle.std.proofs.Common.{rules}
-use Rattle.air_attempt.specs.Party.{Party}
+use Rattle.air_world.specs.Attempts.Party.{Party}
 use Rattle.air_rehearsal.proofs.Names.{slice_get, flat_map, flat_map_more, same_Some, take-length, CountsAcked, ClientTask, tasks_of, Seat, Party as StoredParty}
 use Rattle.air_rehearsal.proofs.AckedLemmas.{counts-append}
 use Rattle.air_rehearsal.proofs.LooksLemmas.{looks-at-end, looks-on}

@@ -1,6 +1,6 @@
 -- By the task's upload, as it was asked.
 use Rattle.std.proofs.Common.{◌-◌, ◌≤◌, ℕ, ap, sym, subst, ◌∙◌}
-use Rattle.air_attempt.specs.Party.{file_of_task}
+use Rattle.air_world.specs.Attempts.Party.{file_of_task}
 use Rattle.air_rehearsal.proofs.PairLemmas.{get-none, get-some}
 use Rattle.air_rehearsal.proofs.TaskFiles.{asked-file, no-asked}
 use Rattle.air_rehearsal.proofs.stations.Stations.file_at.Goals as goal

@@ -1,7 +1,7 @@
 -- A frame that was heard is taken, or halts the station.
 use Rattle.std.proofs.Common.{true, refl}
 use Rattle.ax25_frames.specs.Values.{value_of}
-use Rattle.node.specs.Events.{hears}
+use Rattle.turn_loop.specs.Events.{hears}
 use Rattle.uploader.proofs.Names.{at, ClientStation}
 use Rattle.uploader.proofs.turns.CourseLemmas.{event-halted, event-taken}
 use Rattle.uploader.proofs.turns.station.ClientStationStation.hear.Goals as goal

@@ -1,5 +1,0 @@
-use Rattle.block_entries.proofs.Names.{after_placed, none_is_placed, after_seals}
-use Rattle.block_entries.proofs.laws.placed_law.Goals as goal
-
-pub returns : goal.returns
-returns c = (none_is_placed, λ held blocks. tt, after_placed, after_seals)

@@ -1,5 +1,0 @@
-use Rattle.block_entries.proofs.Names.{placed_records, recorded_record, says_recorded, written_record}
-use Rattle.block_entries.proofs.laws.records_law.Goals as goal
-
-pub returns : goal.returns
-returns c = (placed_records, written_record, says_recorded, recorded_record)

@@ -1,8 +1,0 @@
-use Rattle.std.proofs.Common.{◌≡◌, ◌++◌, map, take, drop}
-use Rattle.block_table.proofs.Names.{earlier}
-use Rattle.block_table.proofs.marks.move_up.Given as goal
-
-abbrev pub invariant-loop-mark : goal.invariant-loop-mark
-invariant-loop-mark l =
-    let old = drop l.from l.fn.marks in
-    l.mark-items ≡ map (earlier l.places) (take l.mark-index old) ++ drop l.mark-index old

@@ -1,5 +1,0 @@
-use Rattle.ftl0_job.proofs.LawLemmas.{acknowledged}
-use Rattle.ftl0_job.proofs.laws.acknowledged_law.Goals as goal
-
-pub returns : goal.returns
-returns c = acknowledged

@@ -1,5 +1,0 @@
-use Rattle.ftl0_job.proofs.LawLemmas.{continued, resumed}
-use Rattle.ftl0_job.proofs.laws.continued_law.Goals as goal
-
-pub returns : goal.returns
-returns c = record { upload = continued; download = resumed }

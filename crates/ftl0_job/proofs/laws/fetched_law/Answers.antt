@@ -1,5 +1,0 @@
-use Rattle.ftl0_job.proofs.LawLemmas.{fetched, fetching}
-use Rattle.ftl0_job.proofs.laws.fetched_law.Goals as goal
-
-pub returns : goal.returns
-returns c = record { octets = fetching; whole = fetched }

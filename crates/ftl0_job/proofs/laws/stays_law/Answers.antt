@@ -1,5 +1,0 @@
-use Rattle.ftl0_job.proofs.LawLemmas.{stays}
-use Rattle.ftl0_job.proofs.laws.stays_law.Goals as goal
-
-pub returns : goal.returns
-returns c = stays

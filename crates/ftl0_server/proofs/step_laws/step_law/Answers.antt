@@ -1,0 +1,5 @@
+use Rattle.ftl0_server.proofs.step_laws.StepLemmas.{step-law}
+use Rattle.ftl0_server.proofs.step_laws.step_law.Goals as goal
+
+pub returns : goal.returns
+returns c = step-law

@@ -1,5 +1,0 @@
-use Rattle.node.proofs.EventLemmas.{events-one}
-use Rattle.node.proofs.laws.one_run_law.Goals as goal
-
-pub returns : goal.returns
-returns c = events-one c.one_frame.ensures
