@@ -1,6 +1,6 @@
 -- A session or a server from the recovery of its store, which is refused or gives one, to its end by the turns of its
 -- node; what it does to its disk, and what stands there.
-use Rattle.std.proofs.Common.{◌≡◌, inl, inr, ℕ, List, ◌++◌, refl, ◌∙◌, ap, subst, arith, [], ◌∷◌, false, sym, ◌≢◌, Result, Ok, Err, IsErrAnd, IsErrOf, Option}
+use Rattle.std.proofs.Common.{◌≡◌, inl, inr, ℕ, List, ◌++◌, refl, ◌∙◌, ap, subst, arith, [], ◌∷◌, false, sym, Result, Ok, IfSome, Err, IsErrAnd, IsErrOf, Option}
 use Rattle.disk_model.specs.AtDisk.{AtDisk, at}
 use Rattle.file_journal.specs.Bounds.{RecoversInHalves}
 use Rattle.file_journal.specs.Position.{Position}
@@ -9,12 +9,12 @@ use Rattle.disk_model.specs.Runs.{Runs, TakesStep}
 use Rattle.server_node.specs.OnDisk.{NodeRuns}
 use Rattle.file_journal.proofs.Offered.{known_told, recovers_on, runs_same}
 use Rattle.disk_model.proofs.Offered.{runs_among, runs_missed}
-use Rattle.server_node.proofs.Names.{AnswersRecovery, AtDisk, Command, Course, CutsOffAmongReads, DoesAmongReads, Ends, EndsOver, Finished, Ghosts, HasAirCause, IsBeforeTurns, IsButLast, IsKnown, IsRead, IsReadOn, IsRecovered, Lent, LentParty, Made, MomentsOf, NodeHasCause, NodeStop, NodeTurnsBy, PutsAmongReads, RanBy, RefusesSession, Run, Seen, Served, Steps, StoppedInLast, StopsBehind, Store, StoreState, TakesAll, TookAll, TookTurns, Turn, TurnTerms, TurnsBy, at_told, common_steps, cuts-among-all, if_told, known_on, lent, made, party_at, served_by, stands-through, store_form, store_layout, store_magic, store_on, told_weaker}
+use Rattle.server_node.proofs.Names.{AnswersRecovery, AtDisk, Command, Course, CutsOffAmongReads, DoesAmongReads, Ends, EndsOver, Finished, Ghosts, HasAirCause, IsBeforeTurns, IsButLast, IsKnown, IsNotOver, IsRead, IsReadOn, IsRecovered, Lent, LentParty, Made, MomentsOf, NodeHasCause, NodeStop, NodeTurnsBy, PutsAmongReads, RanBy, RefusesSession, Run, Seen, Served, Steps, StoppedInLast, StopsBehind, Store, StoreState, TakesAll, TookAll, TookTurns, Turn, TurnTerms, TurnsBy, at_told, common_steps, cuts-among-all, if_told, known_on, lent, made, party_at, served_by, stands-through, store_form, store_layout, store_magic, store_on, told_weaker}
 use Rattle.server_node.proofs.StepsLemmas.{DidOnDisk}
 use Rattle.turn_loop.specs.Stops.{stop_of_fault}
 use Rattle.std.proofs.lemmas.Result.{err_from_is_err_and}
 use Rattle.file_store.specs.IsStore.{IsStore}
-use Rattle.file_store.specs.Journal.{IsAfterRecovery}
+use Rattle.file_store.specs.Journal.{HasGoodHeader, IsAfterRecovery, journal_of}
 use Rattle.file_store.specs.StoreFault.{StoreFault}
 use Rattle.turn_loop.specs.declared.stop.NodeStop.TheVariants as stop
 use Rattle.file_store.specs.StoreFault.TheVariants as fault
@@ -30,6 +30,10 @@ pub record Serves {A C D : Type 0} (seen : Seen D A C) (blocks : ℕ) (given : O
 
 -- ---- a recovery that is refused, whatever it would have given
 
+-- the content, where it is told, is that of a store, or of none yet
+abbrev IsOfStore : Option (List ℕ) → Type 0
+IsOfStore content = IfSome content (λ before. HasGoodHeader (journal_of store_magic store_layout before))
+
 -- one fault is one stop
 same_fault : (why other : StoreFault) → stop_of_fault why ≡ stop_of_fault other → why ≡ other
 same_fault why other is = grind (arith, common_steps)
@@ -44,6 +48,7 @@ module _ {A C D T : Type 0} (seen : Seen D A C) (blocks : ℕ) (given : Option �
     (answers : AnswersRecovery seen.disk store_form blocks answer old.disk disk_n) (why : StoreFault) (there : IsErrOf answer fault.Disk → why ≡ fault.Disk) (back : why ≡ fault.Disk → IsErrOf answer fault.Disk)
     (untouched : (found : List ℕ) → why ≡ fault.NotAStore found → seen.disk.content disk_n ≡ seen.disk.content old.disk)
     (damage : (at : ℕ) → why ≡ fault.Damaged at → seen.disk.content disk_n ≡ seen.disk.content old.disk)
+    (good : why ≡ fault.OutOfMemory → IsOfStore (seen.disk.content old.disk))
     (refuses : RefusesSession {T = Served} blocks (seen.disk.content old.disk) (Err (stop_of_fault why))) where
   abbrev Refused : Result Served NodeStop
   Refused = Err (stop_of_fault why)
@@ -60,7 +65,7 @@ module _ {A C D T : Type 0} (seen : Seen D A C) (blocks : ℕ) (given : Option �
       air = refl;
       clock = refl;
       runs = refused_runs;
-      leaves = record { since_sync = told_weaker (seen.disk.content old.disk) _ _ (λ before told left. grind (arith, common_steps, there, left)) answers.since_sync; since_start = answers.since_start; not_a_store = untouched; damaged = damage };
+      leaves = record { since_sync = told_weaker (seen.disk.content old.disk) _ _ (λ before told left. grind (arith, common_steps, there, left)) answers.since_sync; since_start = answers.since_start; not_a_store = untouched; damaged = damage; memory = good };
       within = answers.within;
     });
     counts = grind (arith, common_steps);
@@ -74,7 +79,7 @@ module _ {A C D T : Type 0} (seen : Seen D A C) (blocks : ℕ) (given : Option �
       → Serves seen blocks given Ran old (lent disk_n old.air old.clock) result
   refused why result is answers =
       let error = err_from_is_err_and result is in rw (error.1, error.2) (unserved seen blocks given Ran old disk_n (Err why) answers why (λ e. error_of why fault.Disk e) (λ e. ap Err e)
-      (λ found e. answers.untouched found (ap Err e)) (λ at e. answers.untouched_damage at (ap Err e)) refuses_so)
+      (λ found e. answers.untouched found (ap Err e)) (λ at e. answers.untouched_damage at (ap Err e)) (λ e. answers.memory (ap Err e)) refuses_so)
     where
       refuses_so : RefusesSession {T = Served} blocks (seen.disk.content old.disk) (Err (stop_of_fault why))
       refuses_so no_disk no_memory =
@@ -84,8 +89,10 @@ module _ {A C D T : Type 0} (seen : Seen D A C) (blocks : ℕ) (given : Option �
           }) (answers.refuses (λ e. no_disk (rw (error_of why fault.Disk e) refl)) (λ e. no_memory (rw (error_of why fault.OutOfMemory e) refl)))
 
   -- it gave this, and there was no memory behind it
-  pub unlisted : (value : T) → AnswersRecovery {T = T} seen.disk store_form blocks (Ok value) old.disk disk_n → Serves seen blocks given Ran old (lent disk_n old.air old.clock) (Err stop.OutOfMemory)
-  unlisted value answers = unserved seen blocks given Ran old disk_n (Ok value) answers fault.OutOfMemory (λ e. cc e) (λ e. cc e) (λ found e. cc e) (λ at e. cc e) (λ no_disk no_memory. absurd (no_memory refl))
+  pub unlisted : (value : T) → AnswersRecovery {T = T} seen.disk store_form blocks (Ok value) old.disk disk_n → IsOfStore (seen.disk.content old.disk)
+      → Serves seen blocks given Ran old (lent disk_n old.air old.clock) (Err stop.OutOfMemory)
+  unlisted value answers good =
+      unserved seen blocks given Ran old disk_n (Ok value) answers fault.OutOfMemory (λ e. cc e) (λ e. cc e) (λ found e. cc e) (λ at e. cc e) (λ e. good) (λ no_disk no_memory. absurd (no_memory refl))
 
 -- ---- a recovery that gave a store
 
@@ -118,8 +125,8 @@ module _ {P A C D E : Type 0} (seen : Seen D A C) (Brings : List Turn → List �
   Causes result = HasAirCause seen.air.read_faults seen.air.write_faults old.air new.air result
 
   module _ (is_over : (p : P) → course.is_over p ≡ false) where
-    pub never-over : ended ≢ Ok finished.Over
-    never-over is = let over = rw is at took.ran in absurd (cc (sym over.2 ∙ is_over new.party))
+    pub never-over : IsNotOver ended
+    never-over turns is = let over = rw is at took.ran in absurd (cc (sym over.2 ∙ is_over new.party))
 
     module _ {S F : Type 0} (steps : Steps S F) (from : S) (events : List F) (Came : Result Served NodeStop → Type 0) where
       abbrev pub Taken : Type 0
@@ -140,7 +147,7 @@ module _ {P A C D E : Type 0} (seen : Seen D A C) (Brings : List Turn → List �
         where
           by : (e : Result Finished NodeStop) → ended ≡ e → NodeTurnsBy e terms.polls took.all.turns → NodeHasCause seen.air old.air new.air e
               → RanBy Brings course (party_at old) took.all e took.text took.unsaid (party_at new) → Came (served_by e)
-          by (Ok finished.Over) is ends counts ran = absurd (never-over is)
+          by (Ok (finished.Over n)) is ends counts ran = absurd (never-over n is)
           by (Ok (finished.Closed n)) is ends counts ran = taken (Ok (record { turns = n })) ends counts (λ e. cc e) (λ l m h. h) ran
           by (Err stop.AirRead) is ends counts ran = taken (Err stop.AirRead) ends counts (λ e. cc e) (λ l m h. h) ran
           by (Err stop.Spent) is ends counts ran = taken (Err stop.Spent) ends counts (λ e. cc e) (λ l m h. h) ran

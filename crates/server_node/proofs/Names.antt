@@ -3,7 +3,7 @@ pub use Rattle.disk_model.specs.declared.disk.Disk.{Ghosts}
 pub use Rattle.disk_model.specs.declared.disk.DiskFault.{DiskFault}
 pub use Rattle.disk_model.specs.declared.halt.Halt.{Halt}
 pub use Rattle.file_journal.specs.Restoring.{AnswersRecovery}
-pub use Rattle.file_store.proofs.Offered.{Does-none, among-at, among-same, among-store, among-then, at_told, cuts-among-all, cuts-among-none, cuts-among-same, cuts-among-then, does-among, if_told, known_on, on_rules_always, puts-among, puts-among-reads, puts-among-same, puts-among-then, puts_none, stands-through, told_weaker}
+pub use Rattle.file_store.proofs.Offered.{Does-none, among-at, among-same, among-store, among-then, at_told, cuts-among-all, cuts-among-none, cuts-among-same, cuts-among-then, does-among, if_told, known_on, on_rules_always, recovered_good, puts-among, puts-among-reads, puts-among-same, puts-among-then, puts_none, stands-through, told_weaker}
 pub use Rattle.file_store.specs.Command.{Command, after_all}
 pub use Rattle.file_store.specs.Recovery.{IsRecovered}
 pub use Rattle.file_store.specs.State.{IsKnown, IsRead, IsReadOn, IsReady, StoreState, store_form, store_in, store_layout, store_magic, store_on}
@@ -45,7 +45,7 @@ pub use Rattle.server_node.specs.Sessions.Server.{IsServer, IsWaiting, server_st
 pub use Rattle.server_node.specs.Sessions.ServerState.{ServerState, new_server}
 pub use Rattle.server_node.specs.Sessions.SessionRan.{IsGreeted, IsUngreeted, SessionRan, login_text}
 pub use Rattle.server_node.specs.Steps.{EndsOver, Made, RunsOn, RunsTo, Service, Steps, StopsBehind, StopsOn, StopsOver, StopsTo, TakesAll, both, made, store_at}
-pub use Rattle.server_node.specs.Stops.{FailsBy, HasAirCause, RefusesSession, served_by}
+pub use Rattle.server_node.specs.Stops.{FailsBy, HasAirCause, IsNotOver, RefusesSession, served_by}
 pub use Rattle.server_node.specs.declared.terms.Served.{Served}
 pub use Rattle.std.proofs.Math.Nat.{add-zero, add_assoc}
 pub use Rattle.std.proofs.lemmas.Grind.{common_steps}

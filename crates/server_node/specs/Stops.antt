@@ -1,5 +1,5 @@
 -- How a node's session stops, and what the air counts by that.
-use Rattle.std.specs.Prelude.{◌≡◌, ◌↔◌, ℕ, ◌≤◌, List, Option, IfSome, Result, Ok, Err, IsErrOf, ⊤}
+use Rattle.std.specs.Prelude.{◌≡◌, ◌≢◌, ◌↔◌, ℕ, ◌≤◌, List, Option, IfSome, Result, Ok, Err, IsErrOf, ⊤}
 use Rattle.px_base.specs.Outside.{Rose}
 use Rattle.file_store.specs.Walk.{damaged_at, no_store}
 use Rattle.file_store.specs.State.{standing_of}
@@ -9,9 +9,13 @@ use Rattle.turn_loop.specs.declared.stop.NodeStop.{NodeStop}
 use Rattle.turn_loop.specs.declared.stop.NodeStop.TheVariants as stop
 use Rattle.server_node.specs.declared.terms.Served.{Served}
 
+-- It took turns until the air closed, or stopped: it was never over.
+abbrev pub IsNotOver : Result Finished NodeStop → Type 0
+IsNotOver ended = (turns : ℕ) → ended ≢ Ok (finished.Over turns)
+
 -- How a node's turns end a session. It is never over before them.
 abbrev pub served_by : Result Finished NodeStop → Result Served NodeStop
-served_by (Ok finished.Over) = Ok (record { turns = 0 })
+served_by (Ok (finished.Over turns)) = Ok (record { turns = turns })
 served_by (Ok (finished.Closed turns)) = Ok (record { turns = turns })
 served_by (Err why) = Err why
 

@@ -93,7 +93,7 @@ module _ {S D : Type 0} (me : S → CallSign) (course : Course S D NodeEvent) (s
 
   ran : (all : Brought Input) (result : Result Finished NodeStop) (text : List ℕ) (unsaid : Bool) (now : AtDisk (OnAir S) D) → all.events ≡ inputs_of all.turns all.moments → length all.moments ≡ length all.turns
       → RanBy AreHandedOver (on_air me course) start all result text unsaid now → Ran all.turns all.moments result text unsaid now
-  ran all (Ok finished.Over) text unsaid now is same h = took-all all.turns all.moments all.events text now true is same h
+  ran all (Ok (finished.Over count)) text unsaid now is same h = took-all all.turns all.moments all.events text now true is same h
   ran all (Ok (finished.Closed count)) text unsaid now is same h = took-all all.turns all.moments all.events text now false is same h
   ran all (Err stop.AirRead) text unsaid now is same h = took-all all.turns all.moments all.events text now false is same h
   ran all (Err stop.Spent) text unsaid now is same h = took-all all.turns all.moments all.events text now false is same h

@@ -5,7 +5,7 @@ pub use Rattle.disk_model.proofs.Writes.{octets_from_fits}
 pub use Rattle.disk_model.specs.declared.halt.Halt.{Halt}
 pub use Rattle.kiss.specs.KissText.{frame_of, from_last_fend, is_fend, kiss_text}
 unfoldable pub use Rattle.kiss.specs.KissText.{kiss_frames, kiss_parts}
-pub use Rattle.turn_loop.specs.Course.{AtDisk, Course, GaveAll, GivesNext, IsLawful, OwesStop, at, stop_at_put, stop_of}
+pub use Rattle.turn_loop.specs.Course.{AtDisk, Course, GaveAll, GivesNext, IsLawful, OwesBy, OwesStop, at, stop_at_put, stop_of}
 pub use Rattle.turn_loop.specs.Events.{Finishes, FramesFor, IsFor, NodeEvent, NodeEvents, TurnsBring, frames_in, heard_at, hears, tick_of, ticks}
 pub use Rattle.turn_loop.specs.Inputs.{Input, IsInput, inputs_of, inputs_since, octet, octets_at, octets_in, tick, tick_after, turn_inputs, turn_tick}
 pub use Rattle.turn_loop.specs.Laws.{SomeFramesLaw}

@@ -1,6 +1,6 @@
 -- The course of a station on the air.
-use Rattle.std.proofs.Common.{◌≡◌, ◌<◌, ◌+◌, ℕ, Option, None, Some, List, [], ◌∷◌, ◌++◌, refl, sym, ap, ◌∙◌, subst, append_assoc, append-nil, take, drop, length, ◌-◌, arith, length-drop}
-use Rattle.turn_loop.proofs.Names.{AllByRecursion, ⊤, drop-take, take-append-drop, take-take, take_all, All-append, All-from_recursion, All-nil, All-take, CallSign, IsOctets, FrameValue, AtDisk, Course, GaveAll, GivesNext, IsLawful, at, Finishes, NodeEvent, heard_at, ticks, Input, IsInput, octet, octets_at, octets_in, tick, SomeFramesLaw, Brings, BringsOver, HasHeardSome, StaysOnAir, inner, on_air, HasHeard, HearsRun, StationValue, Halt, OnAir}
+use Rattle.std.proofs.Common.{◌≡◌, ◌<◌, ◌+◌, ℕ, Option, None, Some, Result, Ok, Err, List, [], ◌∷◌, ◌++◌, refl, sym, ap, ◌∙◌, subst, append_assoc, append-nil, take, drop, length, ◌-◌, arith, length-drop}
+use Rattle.turn_loop.proofs.Names.{AllByRecursion, ⊤, drop-take, take-append-drop, take-take, take_all, All-append, All-from_recursion, All-nil, All-take, CallSign, IsOctets, FrameValue, AtDisk, Course, GaveAll, GivesNext, IsLawful, OwesBy, at, Finishes, NodeEvent, heard_at, ticks, Input, IsInput, octet, octets_at, octets_in, tick, SomeFramesLaw, Brings, BringsOver, HasHeardSome, StaysOnAir, inner, on_air, HasHeard, HearsRun, StationValue, Halt, OnAir, NodeStop}
 use Rattle.turn_loop.proofs.BringsLemmas.{brings-octet, brings-run, brings-then}
 use Rattle.turn_loop.proofs.InputLemmas.{are-octets, octets_at-append, octets_in-append, octets_in-at}
 
@@ -207,6 +207,19 @@ module _ {S D : Type 0} (me : S → CallSign) (course : Course S D NodeEvent) (a
 
   stays-given : (start : AtDisk (OnAir S) D) (inputs : List Input) → StaysOnAir me start inputs a → StaysOnAir me start inputs given
   stays-given start inputs h = record { some = h.some; same_me = same ∙ h.same_me; own = h.own ∙ sym same; are_octets = h.are_octets }
+
+  owes-tick : (moment : ℕ) (why : Option Halt) → a.it.reader.me ≡ me a.it.station → HasHeardSome a.it.reader → course.owes (inner a) (ticks moment ∷ []) why [] (at station disk)
+      → (on_air me course).owes a (tick moment ∷ []) why [] given
+  owes-tick moment why own some owes = (
+    record { some = some; same_me = same; own = own ∙ sym same; are_octets = octets-nil },
+    λ all are heard. (ticks moment ∷ [], ([], refl, refl), (subst (λ (o : List ℕ). HasHeard a.it.reader o) (sym (append-nil all)) heard, owes)),
+  )
+
+  -- the station took a tick, or halts at it
+  pub ticked : (moment : ℕ) (result : Result ⊤ NodeStop) → a.it.reader.me ≡ me a.it.station → HasHeardSome a.it.reader → OwesBy course (inner a) (ticks moment ∷ []) result (at station disk)
+      → OwesBy (on_air me course) a (tick moment ∷ []) result given
+  ticked moment (Ok done) own some h = owes-tick moment None own some h
+  ticked moment (Err stop) own some h = (h.0, h.1, owes-tick moment (Some h.0) own some h.2)
 
   pub gives-next : (text : List ℕ) → GivesNext course (inner a) text (at station disk) → GivesNext (on_air me course) a text given
   gives-next text h = record {

@@ -202,8 +202,9 @@ module _ {P D A C : Type 0} (course : Course P D Input) (air : AirGhosts A) (giv
       ran = ran (h.goes, h.fit, is_over);
     }
 
-    pub turns-over : course.is_over mid.party ≡ true → count ≤ terms.polls → Took mid (Ok finished.Over)
-    turns-over is_over bound = between (Ok finished.Over) true is_over bound h.all_open (h.reads, h.writes) (λ all. all)
+    pub turns-over : course.is_over mid.party ≡ true → (taken : ℕ) → taken ≡ count → count ≤ terms.polls → Took mid (Ok (finished.Over taken))
+    turns-over is_over taken counted bound =
+        between (Ok (finished.Over taken)) true is_over bound (h.all_open, counted ∙ sym h.counted) (h.reads, h.writes) (λ all. all)
 
     pub turns-spent : course.is_over mid.party ≡ false → count ≡ terms.polls → Took mid (Err stop.Spent)
     turns-spent not_over bound = between (Err stop.Spent) false not_over (omega (arith, bound)) (h.counted ∙ bound, h.all_open) (h.reads, h.writes) (λ all. all)

@@ -89,7 +89,7 @@ IsMomentOf turn terms before now moment = NextMoment turn terms.first terms.give
 
 -- The turns, of which there are at most so many, by how they ended. No recovery that is refused comes of turns.
 abbrev pub TurnsBy : Result Finished NodeStop → ℕ → List Turn → Type 0
-TurnsBy (Ok finished.Over) polls turns = AllByRecursion IsOpen turns
+TurnsBy (Ok (finished.Over count)) polls turns = AllByRecursion IsOpen turns × (count ≡ length turns)
 TurnsBy (Ok (finished.Closed count)) polls turns = EndsWith turns turn.End × (count ≡ length turns)
 TurnsBy (Err stop.AirRead) polls turns = EndsWith turns turn.Fail
 TurnsBy (Err stop.AirWrite) polls turns = AllByRecursion IsOpen turns
@@ -152,7 +152,7 @@ pub record StoppedInLast {S D E : Type 0} (Brings : List Turn → List ℕ → L
 abbrev pub RanBy :
     {S D E : Type 0} → (List Turn → List ℕ → List E → Type 0) → Course S D E → AtDisk S D → Brought E
     → Result Finished NodeStop → List ℕ → Bool → AtDisk S D → Type 0
-RanBy Brings course start all (Ok finished.Over) text unsaid now = TookAll course start all.events text now true
+RanBy Brings course start all (Ok (finished.Over count)) text unsaid now = TookAll course start all.events text now true
 RanBy Brings course start all (Ok (finished.Closed count)) text unsaid now =
     TookAll course start all.events text now false
 RanBy Brings course start all (Err stop.AirRead) text unsaid now = TookAll course start all.events text now false

@@ -63,8 +63,8 @@ impl<D: Disk, S: Station<D>> Party<D> for OnAir<S> {
         Ok(piece.len())
     }
 
-    fn tick(&mut self, disk: &mut D, moment: Moment) {
-        self.station.tick(disk, moment);
+    fn tick(&mut self, disk: &mut D, moment: Moment) -> Result<(), NodeStop> {
+        self.station.tick(disk, moment)
     }
 
     fn next_out(&mut self, disk: &mut D, text: &mut ArrayVec<u8, 2049>) -> bool {

@@ -2,7 +2,7 @@
 
 ghost use Rattle.std.specs.Prelude.{◌≡◌, ℕ, ◌<◌, ◌≤◌, [], ◌∷◌, length, take, false, true, None, IfErr, IfOk};
 ghost use Rattle.disk_model.specs.AtDisk.{at};
-ghost use Rattle.turn_loop.specs.Course.{Course, GaveAll, GivesNext, HaltsWithin, IsLawful, OwesSome};
+ghost use Rattle.turn_loop.specs.Course.{Course, GaveAll, GivesNext, HaltsWithin, IsLawful, OwesBy, OwesSome};
 ghost use Rattle.turn_loop.specs.Inputs.{Input, IsInput, octets_at, tick};
 
 use crate::NodeStop;
@@ -35,9 +35,12 @@ pub trait Party<D: Disk> {
             stop (at self.new disk.new)) };
 
     /// Takes the clock's going on to this moment.
-    fn tick(&mut self, disk: &mut D, moment: Moment)
+    ///
+    /// An error: it halts at this tick, and takes nothing more. The stop is the one of that halt: `Disk` or
+    /// `OutOfMemory`.
+    fn tick(&mut self, disk: &mut D, moment: Moment) -> Result<(), NodeStop>
         requires { course.is_fit (at self.old disk.old) }
-        ensures { course.owes (at self.old disk.old) (tick moment ∷ []) None [] (at self.new disk.new) };
+        ensures takes { OwesBy course (at self.old disk.old) (tick moment ∷ []) result (at self.new disk.new) };
 
     /// Replaces `text` by what is to be said next. It is false where nothing is.
     fn next_out(&mut self, disk: &mut D, text: &mut ArrayVec<u8, 2049>) -> bool

@@ -1,6 +1,6 @@
 //! A station of AX.25, as a node drives it.
 
-ghost use Rattle.std.specs.Prelude.{◌≡◌, ◌<◌, [], ◌∷◌, false, true, None, ⊤};
+ghost use Rattle.std.specs.Prelude.{◌≡◌, ◌<◌, [], ◌∷◌, false, true, ⊤};
 ghost use Rattle.px_base.specs.CallSign.{CallSign};
 ghost use Rattle.ax25_frames.specs.Kinds.{FitsControl};
 ghost use Rattle.ax25_frames.specs.Values.{value_of};
@@ -37,9 +37,12 @@ pub trait Station<D: Disk> {
         ensures me { me self.new ≡ me self.old };
 
     /// Takes the clock's going on to this moment.
-    fn tick(&mut self, disk: &mut D, moment: Moment)
+    ///
+    /// An error: it halts at this tick, and takes nothing more. The stop is the one of that halt: `Disk` or
+    /// `OutOfMemory`.
+    fn tick(&mut self, disk: &mut D, moment: Moment) -> Result<(), NodeStop>
         requires { course.is_fit (at self.old disk.old) }
-        ensures takes { course.owes (at self.old disk.old) (ticks moment ∷ []) None [] (at self.new disk.new) }
+        ensures takes { OwesBy course (at self.old disk.old) (ticks moment ∷ []) result (at self.new disk.new) }
         ensures me { me self.new ≡ me self.old };
 
     /// Replaces `frame` by the octets of the next frame that is to be sent. It is false where none is.

@@ -61,7 +61,7 @@ pub fn take_turns<D: Disk, P: Party<D>, A: Air, C: Clock>(
     let mut last = None;
     for turn in 0..terms.polls {
         if party.is_over() {
-            return Ok(Finished::Over);
+            return Ok(Finished::Over(turn));
         }
         let moment = moment_of_turn(turn, terms, clock);
         if !take_turn(
@@ -77,7 +77,7 @@ pub fn take_turns<D: Disk, P: Party<D>, A: Air, C: Clock>(
         last = Some(moment);
     }
     if party.is_over() {
-        Ok(Finished::Over)
+        Ok(Finished::Over(terms.polls))
     } else {
         Err(NodeStop::Spent)
     }
@@ -202,9 +202,17 @@ fn tick<D: Disk, P: Party<D>, A: Air>(
     if moment == last {
         return Ok(());
     }
-    party.tick(disk, moment);
-    put_all(party, disk, air, text)?;
-    Ok(())
+    match party.tick(disk, moment) {
+        Ok(()) => {
+            put_all(party, disk, air, text)?;
+            Ok(())
+        }
+        Err(stop) => {
+            // What it halts by is the answer, whatever becomes of saying the rest.
+            let _ = put_all(party, disk, air, text);
+            Err(stop)
+        }
+    }
 }
 
 /// Says all that the party has to give, each text by one put.

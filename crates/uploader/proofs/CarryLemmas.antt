@@ -187,7 +187,7 @@ module _ {A C D : Type 0} (see : Seen D A C) (old new : Lent D A C) where
 -- nothing is cut off but where the disk failed
 cut-none : (ended : Result Finished NodeStop) (least : List ClientEvent) (client : Client) (events : List ClientEvent) (reached : Option Outcome) (text : List ℕ) (done cut : List NotesCommand)
     → ¬ (ended ≡ Err node.Disk) → EndsOver ended least client events reached text done cut → cut ≡ []
-cut-none (Ok finished.Over) least client events reached text done cut fine h = h.4
+cut-none (Ok (finished.Over count)) least client events reached text done cut fine h = h.4
 cut-none (Ok (finished.Closed count)) least client events reached text done cut fine h = h.4
 cut-none (Err node.AirRead) least client events reached text done cut fine h = h.4
 cut-none (Err node.Spent) least client events reached text done cut fine h = h.4

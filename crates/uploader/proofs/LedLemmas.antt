@@ -135,9 +135,9 @@ module _ (steps : OneStepLaw) (stays : StaysLaw) (client : Client) where
     cut-short : (ended : Result Finished NodeStop) → IsCutShort (Err (stop_of_turns ended)) → got ≡ None → Comes ended
     cut-short ended short working = at-stop ended got (λ (r : Result Outcome SendStop). ComesBy polls turns reached r) (λ still. inr (inr short)) (λ some is. let no : Some some ≡ None = sym is ∙ working in absurd (cc no))
 
-    comes-by : (ended : Result Finished NodeStop) → (ended ≡ Ok finished.Over → got ≢ None) → TurnsBy ended polls turns → EndsOver ended least client (asked_first job events) got text done cut → Comes ended
-    comes-by (Ok finished.Over) over ends h =
-        at-stop (Ok finished.Over) got (λ (r : Result Outcome SendStop). ComesBy polls turns reached r) (λ working. absurd (over refl working))
+    comes-by : (ended : Result Finished NodeStop) → ((count : ℕ) → ended ≡ Ok (finished.Over count) → got ≢ None) → TurnsBy ended polls turns → EndsOver ended least client (asked_first job events) got text done cut → Comes ended
+    comes-by (Ok (finished.Over count)) over ends h =
+        at-stop (Ok (finished.Over count)) got (λ (r : Result Outcome SendStop). ComesBy polls turns reached r) (λ working. absurd (over count refl working))
         (came-to (taken-same (asked_first job events) true got reached text done cut frames commands now h goes is))
     comes-by (Ok (finished.Closed count)) over ends h = of-turns (Ok (finished.Closed count)) false refl ends h
     comes-by (Err node.AirRead) over ends h = of-turns (Err node.AirRead) false refl ends h

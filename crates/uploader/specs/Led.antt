@@ -53,7 +53,7 @@ pub record IsLedTo {A C D : Type 0} (see : Seen D A C) (old new : Lent D A C) (a
 -- whether the turns themselves end a command so: a poll failed, the end of the air was read, or as many polls were made
 -- as may be
 abbrev pub is_of_turns : Result Finished NodeStop → Bool
-is_of_turns (Ok finished.Over) = false
+is_of_turns (Ok (finished.Over count)) = false
 is_of_turns (Ok (finished.Closed count)) = true
 is_of_turns (Err node.AirRead) = true
 is_of_turns (Err node.Spent) = true

@@ -44,10 +44,10 @@ impl<D: Disk> Station<D> for ServerStation {
         }
     }
 
-    fn tick(&mut self, disk: &mut D, moment: Moment) {
+    fn tick(&mut self, disk: &mut D, moment: Moment) -> Result<(), NodeStop> {
         match self.server.tick(disk, moment) {
-            Ok(()) => {}
-            Err(_fault) => unreachable!(),
+            Ok(()) => Ok(()),
+            Err(why) => Err(NodeStop::from(why)),
         }
     }
 

@@ -104,7 +104,9 @@ impl<D: Disk> Party<D> for SessionServer {
         Ok(taken)
     }
 
-    fn tick(&mut self, _disk: &mut D, _moment: Moment) {}
+    fn tick(&mut self, _disk: &mut D, _moment: Moment) -> Result<(), NodeStop> {
+        Ok(())
+    }
 
     fn next_out(&mut self, disk: &mut D, text: &mut ArrayVec<u8, 2049>) -> bool {
         if !self.replies.is_empty() {

@@ -83,7 +83,7 @@ record CameOut {D : Type 0} (g : Ghosts D) (past : Past D) (all : Brought NodeEv
   reached : Option Outcome
   ran : ClientRan past.base past.job polls (run_of all ended text reached done cut)
   cuts : CutsOff g (IsErrOf ended stop.Disk) past.client.notes new.it.client.notes past.disk new.disk done cut
-  over : ended ≡ Ok finished.Over → reached ≢ None
+  over : (count : ℕ) → ended ≡ Ok (finished.Over count) → reached ≢ None
   tells : outcome_in new.it.client.attempt ≡ reached
   came : reached ≢ None → CameToSome new.it.client past.base (asked_first past.job ran.events) reached
 
@@ -145,7 +145,7 @@ module _ {A C D : Type 0} (see : Seen D A C) (lasts : (disk : D) → see.disk.la
   }
 
   -- all was taken
-  took-all : (ended : Result Finished NodeStop) (over : Bool) → TurnsBy ended polls h.all.turns → ¬ IsErrOf ended stop.Disk → (ended ≡ Ok finished.Over → over ≡ true)
+  took-all : (ended : Result Finished NodeStop) (over : Bool) → TurnsBy ended polls h.all.turns → ¬ IsErrOf ended stop.Disk → ((count : ℕ) → ended ≡ Ok (finished.Over count) → over ≡ true)
       → ((least : List ClientEvent) (reached : Option Outcome) (done : List NotesCommand) → TakesAll base events over reached h.text done [] → EndsOver ended least base events reached h.text done [])
       → TookAll (client_course see.disk) (party_at from) h.all.events h.text new over → Out ended
   unfolding ran-as
@@ -164,8 +164,8 @@ module _ {A C D : Type 0} (see : Seen D A C) (lasts : (disk : D) → see.disk.la
         reached = reached;
         ran = ran-as ended turns last least.0 least.1 reached came.commands [] (ends (before_last h.all.turns job least.0) reached came.commands taken);
         cuts = cuts-none see.disk lasts (IsErrOf ended stop.Disk) old.notes new.it.client.notes from.disk new.disk came.commands fine came.does;
-        over = λ e. closed-done law base job came_of.just came_of.go_with new.it.client reached h.all.events h.text came.commands []
-            (subst (λ (b : Bool). TakesAll base events b reached h.text came.commands []) (closed e) taken);
+        over = λ count e. closed-done law base job came_of.just came_of.go_with new.it.client reached h.all.events h.text came.commands []
+            (subst (λ (b : Bool). TakesAll base events b reached h.text came.commands []) (closed count e) taken);
         tells = tells.outcome;
         came = λ some. (
           record {
@@ -223,7 +223,7 @@ module _ {A C D : Type 0} (see : Seen D A C) (lasts : (disk : D) → see.disk.la
                   ran-as (Err why) turns last stopped.least stopped.brought s.reached s.done s.cut
                   (ends (before_last h.all.turns job stopped.least) s.reached s.done s.cut (behind s.reached s.done s.cut s.stops));
               cuts = s.cuts;
-              over = λ e. cc e;
+              over = λ count e. cc e;
               tells = s.tells;
               came = s.came;
             }
@@ -245,16 +245,16 @@ module _ {A C D : Type 0} (see : Seen D A C) (lasts : (disk : D) → see.disk.la
 
   came-by : (ended : Result Finished NodeStop) → TurnsBy ended polls h.all.turns → HasAirCause see.air from.air to.air ended
       → RanBy (NodeEvents base.me) (client_course see.disk) (party_at from) h.all ended h.text h.unsaid new → Came ended
-  came-by (Ok finished.Over) turns counts ran =
-      (took-all (Ok finished.Over) true turns (λ e. cc e) (λ e. refl) (λ least reached done over. over) ran, none-rose _ _ _ _ _ (λ e. cc e) (λ e. cc e) counts.0 counts.1)
+  came-by (Ok (finished.Over count)) turns counts ran =
+      (took-all (Ok (finished.Over count)) true turns (λ e. cc e) (λ n e. refl) (λ least reached done over. over) ran, none-rose _ _ _ _ _ (λ e. cc e) (λ e. cc e) counts.0 counts.1)
   came-by (Ok (finished.Closed count)) turns counts ran =
-      (took-all (Ok (finished.Closed count)) false turns (λ e. cc e) (λ e. cc e) (λ least reached done over. over) ran, none-rose _ _ _ _ _ (λ e. cc e) (λ e. cc e) counts.0 counts.1)
+      (took-all (Ok (finished.Closed count)) false turns (λ e. cc e) (λ n e. cc e) (λ least reached done over. over) ran, none-rose _ _ _ _ _ (λ e. cc e) (λ e. cc e) counts.0 counts.1)
   came-by (Err stop.AirRead) turns counts ran = (
-    took-all (Err stop.AirRead) false turns (λ e. cc e) (λ e. cc e) (λ least reached done over. over) ran,
+    took-all (Err stop.AirRead) false turns (λ e. cc e) (λ n e. cc e) (λ least reached done over. over) ran,
     (record { rose = λ _. counts.0; same = λ never. absurd (never refl) }, counts-same _ _ _ (λ e. cc e) counts.1),
   )
   came-by (Err stop.Spent) turns counts ran =
-      (took-all (Err stop.Spent) false turns (λ e. cc e) (λ e. cc e) (λ least reached done over. over) ran, none-rose _ _ _ _ _ (λ e. cc e) (λ e. cc e) counts.0 counts.1)
+      (took-all (Err stop.Spent) false turns (λ e. cc e) (λ n e. cc e) (λ least reached done over. over) ran, none-rose _ _ _ _ _ (λ e. cc e) (λ e. cc e) counts.0 counts.1)
   came-by (Err stop.AirWrite) turns counts ran = (
     stopped-at stop.AirWrite ran turns (λ least reached done cut over. over),
     (counts-same _ _ _ (λ e. cc e) counts.0, record { rose = λ _. counts.1; same = λ never. absurd (never refl) }),
@@ -366,5 +366,5 @@ module _ {A C D : Type 0} (see : Seen D A C) (lasts : (disk : D) → see.disk.la
         cuts =
             cuts-none see.disk lasts (IsErrOf {T = Finished} (Err stop.OutOfMemory) stop.Disk) old.notes new.notes disk disk [] (λ e. cc e)
             (does-nothing see.disk lasts old.notes new.notes disk (ap (λ (s : ClientState). s.notes) same) may.ready);
-        became = record { over = λ e. cc e; came = λ some. absurd (some refl); promises = λ some. absurd (some refl) };
+        became = record { over = λ count e. cc e; came = λ some. absurd (some refl); promises = λ some. absurd (some refl) };
       }

@@ -59,7 +59,7 @@ pub record Run : Type 0 where
 abbrev pub EndsOver :
     Result Finished NodeStop → List ClientEvent → Client → List ClientEvent → Option Outcome → List ℕ
     → List NotesCommand → List NotesCommand → Type 0
-EndsOver (Ok finished.Over) least client events reached text done cut =
+EndsOver (Ok (finished.Over count)) least client events reached text done cut =
     TakesAll client events true reached text done cut
 EndsOver (Ok (finished.Closed count)) least client events reached text done cut =
     TakesAll client events false reached text done cut
@@ -135,7 +135,7 @@ pub record TakesAir {A C D : Type 0} (see : Seen D A C) (air air_now : A) (clock
 -- stands of these notes. A client that was closed came so far.
 pub record Became (base : Client) (job : JobState) (events : List NodeEvent) (listing : List ℕ) (lists : Lists)
     (run : Run) : Type 0 where
-  pub over : run.ended ≡ Ok finished.Over → run.reached ≢ None
+  pub over : (count : ℕ) → run.ended ≡ Ok (finished.Over count) → run.reached ≢ None
   pub came : run.reached ≢ None → CameWith base (asked_first job events) listing run.reached
   pub promises : run.reached ≢ None → Promises lists job.work listing run.reached
 

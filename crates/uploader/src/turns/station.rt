@@ -38,8 +38,9 @@ impl<D: Disk> Station<D> for ClientStation {
         }
     }
 
-    fn tick(&mut self, _disk: &mut D, _moment: Moment) {
+    fn tick(&mut self, _disk: &mut D, _moment: Moment) -> Result<(), NodeStop> {
         self.client.tick();
+        Ok(())
     }
 
     fn next_out(&mut self, _disk: &mut D, frame: &mut ArrayVec<u8, 400>) -> bool {

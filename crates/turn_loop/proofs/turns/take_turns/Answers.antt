@@ -26,7 +26,7 @@ returns-in_err-put_all-clause-turns g c =
 pub returns-then-is_over-clause-turns : goal.returns-then-is_over-clause-turns
 returns-then-is_over-clause-turns g c =
     turns-over g.P.Party.course g.A.Air g.C.Clock.given (lent_party c.args.party.now c.args.disk.now c.args.air.now c.args.clock.now) c.args.terms.now
-    (lent_party c.loop-turn.party c.loop-turn.disk c.loop-turn.air c.loop-turn.clock) c.loop-turn.last c.loop-turn.turn c.loop-turn.invariant.0 (sym c.if-is_over.ensures) c.loop-turn.auto.turn-end
+    (lent_party c.loop-turn.party c.loop-turn.disk c.loop-turn.air c.loop-turn.clock) c.loop-turn.last c.loop-turn.turn c.loop-turn.invariant.0 (sym c.if-is_over.ensures) c.loop-turn.turn refl c.loop-turn.auto.turn-end
 
 pub take_turn-requires : goal.take_turn-requires
 take_turn-requires g c = c.loop-turn.invariant.0.fit
@@ -65,7 +65,8 @@ loop-turn-preserved g c =
 pub returns-then-is_over-2-clause-turns : goal.returns-then-is_over-2-clause-turns
 returns-then-is_over-2-clause-turns g c =
     turns-over g.P.Party.course g.A.Air g.C.Clock.given (lent_party c.args.party.now c.args.disk.now c.args.air.now c.args.clock.now) c.args.terms.now
-    (lent_party c.loop-turn.party c.loop-turn.disk c.loop-turn.air c.loop-turn.clock) c.loop-turn.last c.loop-turn.turn c.loop-turn.invariant.0 (sym (c.if-is_over-2).ensures) c.loop-turn.auto.turn-end
+    (lent_party c.loop-turn.party c.loop-turn.disk c.loop-turn.air c.loop-turn.clock) c.loop-turn.last c.loop-turn.turn c.loop-turn.invariant.0 (sym (c.if-is_over-2).ensures)
+    c.args.terms.now.polls (omega (arith, c.loop-turn.auto.turn-end, c.loop-turn-test.false)) c.loop-turn.auto.turn-end
 
 pub returns-else-is_over-2-clause-turns : goal.returns-else-is_over-2-clause-turns
 returns-else-is_over-2-clause-turns g c =

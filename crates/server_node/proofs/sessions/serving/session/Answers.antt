@@ -1,6 +1,6 @@
 -- The recovery is refused, or the session is served over what it gives.
 use Rattle.std.proofs.Common.{refl, ◌∙◌, Ok}
-use Rattle.server_node.proofs.Names.{AnswersRecovery, AreHandedOver, IsKnown, StoreState, at, lent, lent_party, login_text, new_server, on_rules_always, seen, session_course, store_form}
+use Rattle.server_node.proofs.Names.{AnswersRecovery, AreHandedOver, IsKnown, StoreState, at, lent, lent_party, login_text, new_server, on_rules_always, recovered_good, seen, session_course, store_form}
 use Rattle.server_node.proofs.Ending.{Recovers, never-over, refused, unlisted}
 use Rattle.server_node.proofs.sessions.CourseLemmas.{owes-first}
 use Rattle.server_node.proofs.sessions.Sessions.{Ran, session-serves}
@@ -20,7 +20,8 @@ returns-in_default g c =
     let h = c.in_ok-store.ensures in
     let terms = c.args.terms.now in
     let serves = unlisted (seen g.D.Disk g.A.Air g.C.Clock.given) terms.limits.blocks terms.moment (Ran (IsKnown g.D.Disk c.args.disk.now) terms) (lent c.args.disk.now c.args.air.now c.args.clock.now) c.recover.new.disk c.in_ok-store.store
-    (record { refuses = h.refuses; untouched = h.untouched; untouched_damage = h.untouched_damage; memory = λ is. absurd (cc is); runs = h.runs; since_start = h.since_start; since_sync = h.since_sync; within = h.within }) in
+    (record { refuses = h.refuses; untouched = h.untouched; untouched_damage = h.untouched_damage; memory = λ is. absurd (cc is); runs = h.runs; since_start = h.since_start; since_sync = h.since_sync; within = h.within })
+    (recovered_good g.D.Disk terms.limits.blocks (g.D.Disk.content c.args.disk.now) _ h.recovered.content) in
     record { refuses = serves.refuses; ends = serves.ends; clock = λ given. refl; counts = serves.counts; memory = serves.memory; runs = serves.runs }
 
 -- LOGIN_RESP is what the server has to say first
