@@ -41,7 +41,7 @@ SentLaw =
     → SendsAll store (downloading state) failures part (octets_due store state) (downloading (state_at_end state))
 
 -- Over this event a session that waits for a command says DATA with these octets, one after another, and then DATA_END.
--- It does no command of the store, and comes to these lists and this state.
+-- It does no command of the store, and ends with these lists and this state.
 pub record SaysAll (caller : CallSign) (store : Store) (lists : List CallerList) (event : Event) (octets : List ℕ)
     (lists_now : List CallerList) (next : State) : Type 0 where
   pub pieces : List (List ℕ)
