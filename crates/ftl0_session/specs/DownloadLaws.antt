@@ -52,7 +52,7 @@ pub record SaysAll (caller : CallSign) (store : Store) (lists : List CallerList)
 
 -- A complete file that is asked for from an offset on, up to its length, is sent exactly from there to its end: the
 -- file of the number that is asked for, or for number 0 the first that is left in the caller's list, from which it is
--- taken. Then the word is waited for that it came.
+-- taken. Then DL_ACK_CMD or DL_NAK_CMD is waited for.
 abbrev pub DownloadedLaw : Type 0
 DownloadedLaw =
     (caller : CallSign) (store : Store) (lists : List CallerList) (event : Event) (asked number offset : ℕ)

@@ -18,7 +18,7 @@ use Rattle.ftl0_session.specs.Downloads.Table.{DownloadRow, DownloadState, Due}
 
 -- A session waits for a command; or receives the file of this number, of which these octets aren't held yet; or waits
 -- for the end of a file that it refused; or sends the file of this number from one place up to another; or waits for
--- the word that the file came; or sends headers, of which these are still due.
+-- DL_ACK_CMD or DL_NAK_CMD; or sends headers, of which these are still due.
 pub data State : Type 0 where
   command : State
   receiving : ℕ → List ℕ → State
@@ -97,7 +97,7 @@ error_row lists state item =
     }
 
 -- The packet's row of uploading, whether a read fails or none does, if it has one: none while something is sent or
--- listed, or the word is waited for that a file came.
+-- listed, or DL_ACK_CMD or DL_NAK_CMD is waited for.
 abbrev pub upload_row : CallSign → ℕ → Store → State → Item → Bool → Option upload.Row
 upload_row caller moment store command item fails =
     upload.row_by_read caller moment store upload.command item fails

@@ -27,8 +27,8 @@ pub data Due : Type 0 where
   stored : ℕ → ℕ → ℕ → Due
   kept : List ℕ → Due
 
--- A session is ready for a command; or sends the file of this number from one place up to another; or waits for the
--- word that the file came; or sends headers, of which these are still due.
+-- A session is ready for a command; or sends the file of this number from one place up to another; or waits for
+-- DL_ACK_CMD or DL_NAK_CMD; or sends headers, of which these are still due.
 pub data DownloadState : Type 0 where
   ready : DownloadState
   sending : ℕ → ℕ → ℕ → DownloadState

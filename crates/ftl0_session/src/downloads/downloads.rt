@@ -89,7 +89,7 @@ enum Phase {
     Ready,
     /// It sends these octets of a file.
     Sending(Span),
-    /// The file was sent, and it waits for the word that the file came.
+    /// The file was sent, and it waits for DL_ACK_CMD or DL_NAK_CMD.
     Waiting,
     /// It sends short forms of headers.
     ListingShort,
@@ -144,7 +144,8 @@ impl Downloads {
         }
     }
 
-    /// Whether the session is ready for a command: it sends nothing, and waits for no word. Takes no memory.
+    /// Whether the session is ready for a command: it sends nothing, and waits for neither DL_ACK_CMD nor DL_NAK_CMD.
+    /// Takes no memory.
     pub fn is_ready(&self) -> bool
         ensures { IsTrue result ↔ (self.now ≡ ready) }
     {
@@ -428,7 +429,7 @@ fn reply_in_sending(packet: &Packet<'_>) -> Option<Packet<'static>>
     }
 }
 
-/// The reply to a packet while the word is waited for that a file came, if it has one.
+/// The reply to a packet while DL_ACK_CMD or DL_NAK_CMD is waited for, if it has one.
 fn reply_in_waiting(packet: &Packet<'_>) -> Option<Packet<'static>>
     ensures reply { option_map value_of result ≡ reply_waiting (value_of packet.now) }
     ensures bare { IfSome result (λ reply. information (value_of reply) ≡ []) }
