@@ -1,4 +1,4 @@
--- The numbers behind a station's transmissions, when a frame is sent and when one is delivered.
+-- The whole numbers of a station's transmissions, when a frame is sent and when one is delivered.
 use Rattle.std.proofs.Common.{◌≡◌, ℕ, ◌+◌, ◌%◌, ◌<◌, ◌≤◌, ◌⊎◌, List, [], ◌∷◌, ◌++◌, length, take, Some, false, refl, sym, ◌∙◌, ap, arith, inl, inr}
 use Rattle.std.specs.Prelude.{◌==◌, if◌then◌else◌}
 use Rattle.ax25_link.proofs.Names.{slice_get, IsTrue, cond-true, cond-false, eq-eqb, ne_eqb, cases_lt, cases_eq, Control, I, FrameValue, Window, is_call, Transmission, fresh, IsAt, control_of, is_information, is_numbered, delivering, send_number, ack_number, IsInformationAt, IsNumberedAt, PiecesFit, ShownFit, IsOpened}
@@ -115,8 +115,8 @@ pub updated_before : (number : ℕ → ℕ) (at n place : ℕ) → place < at �
 unfolding updated
 updated_before number at n place below = cond-false (place == at) n (number place) (ne_eqb place at (λ e. (let x : ⊥ = omega arith in x)))
 
--- an I frame that is sent: it shows its piece's number, and carries the piece; no more than k pieces were sent or accepted
--- from this one on
+-- an I frame that is sent: it shows its piece's number, and carries the piece; no more than k pieces were sent or
+-- accepted from this one on
 pub record NewPiece (w : Window) (pieces : List (List ℕ)) (taken : ℕ) (frame : FrameValue) (n : ℕ) : Type 0 where
   pub shows : send_number frame.kind.control ≡ n % w.modulus
   pub carries : slice_get pieces n ≡ Some frame.kind.information

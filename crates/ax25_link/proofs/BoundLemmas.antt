@@ -36,7 +36,7 @@ drop_all : (pieces : List (List ℕ)) → drop (length pieces) pieces ≡ []
 drop_all [] = refl
 drop_all (piece ∷ pieces) = drop_all pieces
 
--- one octet is queued where nothing is held
+-- one octet is queued if nothing is held
 queued_one : (end : LinkEnd) → Waits end → end.acked ≡ high end → (after_push end (0 ∷ [])).queued ≡ 0 ∷ []
 queued_one end h none =
     let empty : held end ≡ [] =

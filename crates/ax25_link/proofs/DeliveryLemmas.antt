@@ -10,18 +10,18 @@ use Rattle.ax25_link.proofs.HeardLemmas.{Hears, Acknowledges, after_frame-Hears}
 use Rattle.ax25_link.proofs.SendLemmas.{IsRest}
 use Rattle.ax25_link.proofs.LinkedLemmas.{station, count_of, quiet-owed}
 
--- one element more of the front of a list
+-- a prefix of a list with one element more
 take_one_more : (pieces : List (List ℕ)) (n : ℕ) (x : List ℕ) → slice_get pieces n ≡ Some x → take n pieces ++ x ∷ [] ≡ take (suc n) pieces
 take_one_more [] n x h = absurd (let y : ⊥ = cc in y)
 take_one_more (piece ∷ pieces) zero x h = ap (λ (y : List ℕ). y ∷ []) (sym (same_Some piece x h))
 take_one_more (piece ∷ pieces) (suc n) x h = ap (λ (l : List (List ℕ)). piece ∷ l) (take_one_more pieces n x h)
 
--- nothing follows where the whole is empty
+-- nothing follows if the whole is empty
 none_left : (front rest : List ℕ) → [] ≡ front ++ rest → rest ≡ []
 none_left [] rest h = sym h
 none_left (x ∷ front) rest h = absurd (let y : ⊥ = cc in y)
 
--- What the number behind a delivered I or S frame is to the end that hears it: it means that number, or it is stale.
+-- What the whole number of a delivered I or S frame is to the end that hears it: it means that number, or it is stale.
 pub record Reads (w : Window) (one other : Station) (t : Transmission) (shown : ℕ) : Type 0 where
   pub below : shown ≤ taken_count other.end
   pub meaning : ((one.end.acked ≤ shown) × (meaning_of w one.end (ack_number (control_of t)) ≡ good shown))

@@ -1,4 +1,4 @@
--- Each end comes to send nothing, by one list of frames.
+-- Each end has nothing left to send after one list of frames.
 use Rattle.std.proofs.Common.{◌≡◌, ℕ, ◌≤◌, ◌⊎◌, List, [], ◌∷◌, Option, Some, None, refl, sym, ◌∙◌, ap, subst, arith, inl, inr, zero, suc}
 use Rattle.ax25_link.proofs.Names.{same_Some, FrameValue, Window, LinkEnd, IsEnd, Sending, next_sending, Drains, DrainsLaw}
 use Rattle.ax25_link.proofs.SendLemmas.{left_to_send, next_sending-Sends}

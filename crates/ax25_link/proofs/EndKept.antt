@@ -1,4 +1,4 @@
--- Each step keeps what holds of each end.
+-- Each step keeps what is true of each end.
 use Rattle.std.proofs.Common.{◌≡◌, ℕ, ◌≤◌, List, length, Option, Some, Bool, true, false, refl, ap, arith}
 use Rattle.std.specs.Prelude.{◌==◌}
 use Rattle.ax25_link.proofs.Names.{cond_both, eqb-false, CallSign, Control, Sabm, FrameValue, LinkState, Calling, Up, Ending, Down, Window, LinkEnd, Reply, IsEnd, high, outstanding, accept, call, enquire, oldest, begun, calling_end, answering_end, Outcome, row_of_state, up_row, after_frame, entering, is_down, runs_out, is_spent, asking, timer_reply, trying, after_tick, after_push, after_hang_up, after_abandon, Doing, push, hang_up, abandon, after_doing, IsQuiet}
@@ -71,7 +71,7 @@ after_doing-IsEnd w end (push octets) fits = after_push-IsEnd w end octets fits
 after_doing-IsEnd w end hang_up fits = after_hang_up-IsEnd w end fits
 after_doing-IsEnd w end abandon fits = after_abandon-IsEnd w end fits
 
--- the oldest outstanding frame is sent again only where one is outstanding
+-- the oldest outstanding frame is sent again only if one is outstanding
 pub asking-oldest : (end : LinkEnd) → asking end ≡ oldest → 1 ≤ outstanding end
 asking-oldest end =
     cond_both (outstanding end == 0) enquire oldest (λ (reply : Reply). reply ≡ oldest → 1 ≤ outstanding end)

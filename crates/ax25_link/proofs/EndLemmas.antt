@@ -89,7 +89,7 @@ applying-acked end (good x) fits = inr (ap good (sym (acknowledging-acked end x 
 applying-acked end stale fits = inl (acknowledging-acked end end.acked (omega arith))
 applying-acked end bad fits = inl refl
 
--- a reply stays only where it is no I frame
+-- a reply stays only if it is no I frame
 pub unless_oldest-no : (reply : Option Reply) → unless_oldest reply ≡ Some oldest → ⊥
 unless_oldest-no (Some oldest) h = let no : ⊥ = cc in no
 unless_oldest-no reply h = let no : ⊥ = cc in no

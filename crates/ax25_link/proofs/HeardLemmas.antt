@@ -33,7 +33,7 @@ pub record Hears (w : Window) (old : LinkEnd) (control : Control) (information :
 no_reply : (end : LinkEnd) → end.reply ≡ None → end.reply ≡ Some oldest → ⊥
 no_reply end h e = let no : ⊥ = cc in no
 
--- nothing changes, but for a reply
+-- nothing changes except a reply
 pub Hears_replying : (w : Window) (old : LinkEnd) (control : Control) (information : List ℕ) (reply : Option Reply) → Quiet old
     → old.acked ≤ high old → (reply ≡ Some oldest → ⊥) → Hears w old control information (record old { reply = reply })
 Hears_replying w old control information reply q order other =
@@ -101,7 +101,8 @@ acknowledged : (w : Window) (old : LinkEnd) (control : Control) (e : LinkEnd) �
 acknowledged w old control e kind (inl same) = inl same
 acknowledged w old control e kind (inr meaning) = inr (record { kind = kind; good = meaning })
 
--- an end that differs from one that applied an N(R) in what `Hears` doesn't look at, in its reply, and in what it sends again
+-- an end that differs from one that applied an N(R) in what `Hears` doesn't look at, in its reply, and in what it sends
+-- again
 pub record Follows (e new : LinkEnd) : Type 0 where
   pub state : new.state ≡ e.state
   pub pushed : new.pushed ≡ e.pushed

@@ -25,7 +25,7 @@ turned w one other h =
       other_opened = h.one_opened;
     }
 
--- the octets of the first pieces are a front of those of all
+-- the octets of the first pieces are a prefix of those of all
 concat-front : (pieces : List (List ℕ)) (n : ℕ) → concat pieces ≡ concat (take n pieces) ++ concat (drop n pieces)
 concat-front pieces n = ap concat (sym (take-append-drop n pieces)) ∙ concat-append (take n pieces) (drop n pieces)
 

@@ -1,4 +1,4 @@
--- What N(R) means where the number behind it is known.
+-- What N(R) means if the whole number that it shows is known.
 use Rattle.std.proofs.Common.{◌≡◌, ℕ, ◌+◌, ◌-◌, ◌%◌, ◌<◌, ◌≤◌, ◌⊎◌, sym, ◌∙◌, ap, arith, inl, inr}
 use Rattle.ax25_link.proofs.Names.{nat_le, nat_lt, cond-true, cond-false, le-leb, lt-leb, lt-ltb, le-ltb, cases_lt, Window, IsWindow, LinkEnd, IsEnd, high, good, stale, bad, distance, meaning_at, meaning_of}
 use Rattle.ax25_link.proofs.Modulus.{distance_up, distance_down}
@@ -36,8 +36,8 @@ distance_below w acked nr x shows less most =
     ∙ ap (λ n. (x % m + (m - n % m)) % m) (sym same)
     ∙ distance_down x (acked - x) m (omega arith) (omega arith)
 
--- What N(R) means where the number that it shows is at most what was sent, and at most m - 1 - k below what is acknowledged:
--- it is good from what is acknowledged on, and stale below. It is never bad.
+-- What N(R) means if the number that it shows is at most what was sent, and at most m - 1 - k below what is
+-- acknowledged: it is good from what is acknowledged on, and stale below. It is never bad.
 pub meaning_shown : (w : Window) (end : LinkEnd) (nr x : ℕ) → IsWindow w → IsEnd w end → nr ≡ x % w.modulus → x ≤ high end
     → end.acked ≤ x + (w.modulus - 1 - w.size)
     → ((end.acked ≤ x) × (meaning_of w end nr ≡ good x)) ⊎ ((x < end.acked) × (meaning_of w end nr ≡ stale))

@@ -88,7 +88,7 @@ piece-cut (size ∷ sizes) octets (suc place) inside =
     piece-cut sizes (drop size octets) place (omega arith)
     ∙ ap (λ (rest : List ℕ). take (get_or sizes place 0) rest) (sym (drop-cons size (take place sizes) octets))
 
--- the front of two lists taken as one
+-- a prefix of two lists taken as one
 pub take-two : (n : ℕ) (front back : List ℕ) → take n (front ++ back) ≡ take n front ++ take (n - length front) back
 take-two n front back = ⊎_elim {C = take n (front ++ back) ≡ take n front ++ take (n - length front) back}
     (λ (past : length front < n).

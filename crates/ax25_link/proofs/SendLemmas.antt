@@ -120,7 +120,7 @@ is_up-Up : (state : LinkState) → is_up state ≡ true → state ≡ Up
 is_up-Up Up h = refl
 is_up-Up state h = absurd (let x : ⊥ = cc in x)
 
--- an end that has given a piece to a new I frame, and may have begun the timer anew
+-- an end that has given a piece to a new I frame, and may have begun the timer again
 pub record HasPiece (old new : LinkEnd) : Type 0 where
   pub state : new.state ≡ old.state
   pub pushed : new.pushed ≡ old.pushed
@@ -149,7 +149,7 @@ more_pieces pieces piece =
       front = λ n h. take-append-le n pieces (piece ∷ []) h;
     }
 
--- the octets of the new piece come from the front of those that are queued
+-- the octets of the new piece come from the beginning of those that are queued
 piece_rest : (old new : LinkEnd) → HasPiece old new → old.state ≡ Up → (rest : List ℕ) → IsRest old rest → (left : List ℕ) × IsRest new left
 piece_rest old new h up rest (pushed, queued) =
     let all : old.queued ≡ rest = queued up in
@@ -236,7 +236,7 @@ Sends_farewell w old farewell fits e =
       less = omega (arith, one);
     }
 
--- what holds of each frame that may be sent next, and of the end then, holds of the one that is
+-- what is true of each frame that may be sent next, and of the end then, is true of the one that is
 pub sending_cases : (w : Window) (end : LinkEnd) (P : Sending → Type 0)
     → ((reply : Reply) → end.reply ≡ Some reply → P (sends_reply w end reply)) → (nat_lt 0 end.again ≡ true → P (sends_again w end))
     → (has_new w end ≡ true → P (sends_new w end)) → ((farewell : Farewell) → end.farewell ≡ Some farewell → P (sends_farewell end farewell))

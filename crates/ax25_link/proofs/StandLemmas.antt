@@ -1,4 +1,4 @@
--- What holds of each end that a link stands for.
+-- What is true of each end that a link stands for.
 use Rattle.std.proofs.Common.{◌≡◌, ◌-◌, length, ap, ◌∙◌, length-drop, arith}
 use Rattle.ax25_link.proofs.Names.{high, Kept, IsKept, Fits}
 

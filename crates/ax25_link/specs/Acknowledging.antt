@@ -3,8 +3,8 @@ use Rattle.std.specs.Prelude.{◌≡◌, ℕ, ◌+◌, ◌-◌, ◌%◌, ◌<◌
 use Rattle.ax25_link.specs.Window.{Window}
 use Rattle.ax25_link.specs.Ends.{LinkEnd, high}
 
--- So many pieces are acknowledged in all; or N(R) is from before the last acknowledgement; or it acknowledges a frame
--- that was never sent.
+-- This number of pieces is acknowledged in all; or N(R) is from before the last acknowledgement; or it acknowledges a
+-- frame that was never sent.
 pub data Meaning : Type 0 where
   good : ℕ → Meaning
   stale : Meaning
@@ -43,13 +43,13 @@ meaning_of w end nr = meaning_at w end (distance w end.acked nr)
 abbrev pub with_timer_anew : LinkEnd → LinkEnd
 with_timer_anew end = record end { count = 0; tries = 0 }
 
--- So many pieces are acknowledged (2.4.4.5). The timer begins anew where these are more than before, and where nothing is
+-- This number of pieces is acknowledged (2.4.4.5). The timer begins again if it is more than before, or if nothing is
 -- outstanding then (2.4.7.1).
 abbrev pub acknowledging : LinkEnd → ℕ → LinkEnd
 acknowledging end x =
     if nat_lt end.acked x || (x == high end) then with_timer_anew (record end { acked = x }) else end
 
--- the end after an N(R) of this meaning is applied; a stale one is passed over
+-- the end after an N(R) of this meaning is applied; a stale one is ignored
 abbrev pub applying : LinkEnd → Meaning → LinkEnd
 applying end (good x) = acknowledging end x
 applying end stale = acknowledging end end.acked

@@ -19,8 +19,8 @@ pub data Act : Type 0 where
   -- the next frame is sent
   send : Sending → Act
 
--- Whether the act may come. A frame and a tick are taken while nothing is to be sent, a frame while the other station has
--- nothing to send either. A further SABM begins another attempt, so it isn't sent in this one.
+-- Whether the act may come. A frame and a tick are taken while nothing is to be sent, a frame while the other station
+-- has nothing to send either. A further SABM begins another attempt, so it isn't sent in this one.
 abbrev pub MayAct : Window → Station → Station → Act → Type 0
 MayAct w one other (hear place t) = IsQuiet w one.end × IsQuiet w other.end × IsLawful w other.transmissions place t
 MayAct w one other tick = IsQuiet w one.end

@@ -1,5 +1,5 @@
--- What the stations of an attempt sent, and which deliveries are lawful. An attempt is one SABM that a station sent, and
--- all that follows between the two stations until it sends the next.
+-- What the stations of an attempt sent, and which deliveries are lawful. An attempt is one SABM that a station sent,
+-- and all that follows between the two stations until it sends the next.
 use Rattle.std.specs.Prelude.{◌≡◌, ℕ, ◌-◌, ◌<◌, ◌≤◌, ◌⊎◌, List, ◌++◌, length, map, slice_get, slice_set, Bool, true, false, Some, IsTrue}
 use Rattle.ax25_frames.specs.declared.control.Control.{Control}
 use Rattle.ax25_frames.specs.declared.control.Control.TheVariants.{I, Rr, Rnr, Rej, Sabm, Disc, Dm, Ua, Frmr, Ui}
@@ -15,11 +15,11 @@ pub record Transmission : Type 0 where
 abbrev pub fresh : FrameValue → Transmission
 fresh frame = record { frame = frame; delivered = false }
 
--- the transmission at this place of those of one station in the attempt, which stand in the order of their sending
+-- the transmission at this place of those of one station in the attempt, which are in the order of their sending
 abbrev pub IsAt : List Transmission → ℕ → Transmission → Type 0
 IsAt list place t = slice_get list place ≡ Some t
 
--- so many were sent after the one at this place
+-- how many were sent after the one at this place
 abbrev pub later_count : List Transmission → ℕ → ℕ
 later_count list place = length list - 1 - place
 
@@ -58,9 +58,9 @@ NoneLater list place =
     (later : ℕ) (t : Transmission) → place < later → IsAt list later t → IsTrue (is_numbered (control_of t))
     → t.delivered ≡ false
 
--- The transmission at this place may be delivered. It was sent in the attempt. A SABM wasn't delivered before. An I or S
--- frame, which may have been delivered before, isn't overtaken by a delivery of a later I or S frame, or at most m - 1 - k
--- frames were sent after it.
+-- The transmission at this place may be delivered. It was sent in the attempt. A SABM wasn't delivered before. An I or
+-- S frame, which may have been delivered before, isn't overtaken by a delivery of a later I or S frame, or at most m -
+-- 1 - k frames were sent after it.
 pub record IsLawful (w : Window) (list : List Transmission) (place : ℕ) (t : Transmission) : Type 0 where
   pub sent : IsAt list place t
   pub call : IsTrue (is_call (control_of t)) → t.delivered ≡ false

@@ -6,13 +6,13 @@ use Rattle.ax25_link.specs.declared.timer.Expiry.TheVariants.{Waits, Asks, Gives
 use Rattle.ax25_link.specs.declared.window.Acknowledgement.{Acknowledgement}
 use Rattle.ax25_link.specs.declared.window.Acknowledgement.TheVariants.{Good, Stale, Bad}
 
--- what an N(R) means that is so far above V(A), where so many frames are outstanding and the window is k
+-- what an N(R) means that is this far above V(A), if this number of frames is outstanding and the window is k
 abbrev pub IsJudged : Acknowledgement → ℕ → ℕ → ℕ → Type 0
 IsJudged (Good count) far outstanding k = (count ≡ far) × (far ≤ outstanding)
 IsJudged Stale far outstanding k = (outstanding < far) × (k < far)
 IsJudged Bad far outstanding k = (outstanding < far) × (far ≤ k)
 
--- what a tick does to ticks and tries, where so many ticks are the limit
+-- what a tick does to ticks and tries, if this number of ticks is the limit
 abbrev pub HasTicked : Expiry → Timer → Timer → ℕ → Type 0
 HasTicked Waits old new limit = (old.ticks + 1 < limit) × (new.ticks ≡ old.ticks + 1) × (new.tries ≡ old.tries)
 HasTicked Asks old new limit =

@@ -55,7 +55,7 @@ pub record LinkEnd : Type 0 where
   pub tries : ℕ
   -- what is to be sent first
   pub reply : Option Reply
-  -- so many of the pieces that were sent, the last ones, are to be sent again
+  -- how many of the pieces that were sent, the last ones, are to be sent again
   pub again : ℕ
   -- what is to be sent last
   pub farewell : Option Farewell
@@ -84,7 +84,7 @@ most_held = 4096
 abbrev pub free_octets : LinkEnd → ℕ
 free_octets end = most_held - length (held end)
 
--- an end with numbers 0 and nothing in its lists, which is to send this first, where it is to send anything
+-- an end with numbers 0 and nothing in its lists, which is to send this first, if it is to send anything
 abbrev pub begun : Bool → CallSign → CallSign → LinkState → Option Reply → LinkEnd
 begun called me peer state reply =
     record {
@@ -114,12 +114,12 @@ calling_end me peer = begun true me peer Calling (Some call)
 abbrev pub answering_end : CallSign → CallSign → Bool → LinkEnd
 answering_end me peer poll = begun false me peer Up (Some (accept poll))
 
--- An end before its first link, with nothing to be sent. It has no peer: its own station stands in that place.
+-- An end before its first link, with nothing to be sent. It has no peer: its own station is in that place.
 abbrev pub idle_end : CallSign → LinkEnd
 idle_end me = begun false me me Down None
 
--- What holds of each end, whatever frames it was given: at most k frames are outstanding, and none is to be sent again
--- that isn't outstanding.
+-- What is true of each end, whatever frames it was given: at most k frames are outstanding, and none is to be sent
+-- again that isn't outstanding.
 pub record IsEnd (w : Window) (end : LinkEnd) : Type 0 where
   pub acked : end.acked ≤ high end
   pub window : high end ≤ end.acked + w.size

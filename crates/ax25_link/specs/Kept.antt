@@ -37,7 +37,7 @@ pub record Kept : Type 0 where
 abbrev pub outstanding_in : Kept → ℕ
 outstanding_in kept = length kept.queue.pieces
 
--- what holds of each link
+-- what is true of each link
 pub record IsKept (kept : Kept) : Type 0 where
   pub window : IsGoodK kept.k
   pub acked : kept.acked < 8
@@ -112,7 +112,7 @@ Fits link = (w : Window) (end : LinkEnd) → StandsFor w link end → IsEnd w en
 abbrev pub Steps : Kept → Kept → (Window → LinkEnd → LinkEnd) → Type 0
 Steps before now step = (w : Window) (end : LinkEnd) → StandsFor w before end → StandsFor w now (step w end)
 
--- whatever end the link stood for, this is what is told of it
+-- whatever end the link stood for, this is what is reported of it
 abbrev pub Tells : {X : Type 0} → Kept → (Window → LinkEnd → X) → X → Type 0
 Tells before told answer = (w : Window) (end : LinkEnd) → StandsFor w before end → answer ≡ told w end
 
@@ -124,8 +124,8 @@ Writes link frame octets = Tells link (λ w end. canonical (frame w end)) octets
 abbrev pub Reads : Kept → (Window → LinkEnd → FrameValue) → List ℕ → Type 0
 Reads link frame octets = (w : Window) (end : LinkEnd) → StandsFor w link end → FrameText (frame w end) octets
 
--- Whatever end the link stood for, it stands for the end of this outcome now, and what is told is the outcome's. Its
--- stations stay.
+-- Whatever end the link stood for, it stands for the end of this outcome now, and what is reported is the outcome's.
+-- Its stations stay.
 pub record Takes (before now : Kept) (row : Window → LinkEnd → Outcome) (answer : Heard) : Type 0 where
   pub after : Steps before now (λ w end. (row w end).after)
   pub heard : Tells before (λ w end. (row w end).heard) answer
@@ -156,7 +156,7 @@ has_new_in link =
 abbrev pub is_pending : Kept → Bool
 is_pending link = is_there link.reply || nat_lt 0 link.again || has_new_in link || is_there link.farewell
 
--- 1 where a value is there
+-- 1 if a value is there
 abbrev pub count_of : {X : Type 0} → Option X → ℕ
 count_of None = 0
 count_of (Some x) = 1
@@ -177,8 +177,8 @@ pub record IsFromPeer (link : Kept) (frame : FrameValue) : Type 0 where
   pub via : frame.via ≡ 0
   pub numbers : FitsControl frame.kind.control
 
--- What is handed out where this is sent next: nothing, and nothing changes; or the octets of its frame in place of
--- those that the buffer held.
+-- What is handed out if this is sent next: nothing, and nothing changes; or the octets of its frame in place of those
+-- that the buffer held.
 abbrev pub HandsOut : Option Sending → Window → Kept → Kept → List ℕ → List ℕ → Bool → Type 0
 HandsOut None w before now old new answer = (answer ≡ false) × IsUnchanged before now old new
 HandsOut (Some sending) w before now old new answer =

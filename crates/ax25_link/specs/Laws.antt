@@ -24,7 +24,7 @@ OneMeaningLaw =
     → HasMeaning w end nr (meaning_of w end nr)
     × ((meaning : Meaning) → HasMeaning w end nr meaning → meaning ≡ meaning_of w end nr)
 
--- Each end comes to send nothing, after one list of frames.
+-- Each end has nothing left to send after one list of frames.
 abbrev pub DrainsLaw : Type 0
 DrainsLaw =
     (w : Window) (end : LinkEnd) → IsWindow w → IsEnd w end
@@ -66,8 +66,8 @@ abbrev pub HasNoCall : List FrameValue → Type 0
 HasNoCall [] = ⊤
 HasNoCall (f ∷ frames) = (is_call f.kind.control ≡ false) × HasNoCall frames
 
--- Only an end that is calling sends a SABM, at a tick: what an end sends else belongs to the attempt. `step` is a whole
--- step; `sent` is what is sent where none came, as by an end that answers.
+-- Only an end that is calling sends a SABM, at a tick: whatever else an end sends belongs to the attempt. `step` is a
+-- whole step; `sent` is what is sent if none came, as by an end that answers.
 pub record NoCallLaw : Type 0 where
   pub step :
       (w : Window) (old new : LinkEnd) (coming : Coming) (heard : Heard) (doings : List Doing) (frames : List FrameValue)
@@ -87,8 +87,8 @@ SentLaw =
     → IsWindow w → AreLinked w one other → DoesAll one.end doings end → Drains w end frames last → HasNoCall frames
     → AreLinked w (having_sent one last frames) other
 
--- They stay linked when one of them hears a frame of the other one by a lawful delivery, or a tick comes, and it makes its
--- whole step.
+-- They stay linked when one of them hears a frame of the other one by a lawful delivery, or a tick comes, and it makes
+-- its whole step.
 abbrev pub HeardLaw : Type 0
 HeardLaw =
     (w : Window) (one other : Station) (place : ℕ) (t : Transmission) (heard : Heard) (doings : List Doing)

@@ -1,5 +1,5 @@
--- A step of an end: something comes, the layer above does what it does then, and the frames go out until nothing is to be
--- sent. In a run of two stations this is one event of one of them.
+-- A step of an end: something comes, the layer above does what it does then, and the frames go out until nothing is to
+-- be sent. In a run of two stations this is one event of one of them.
 use Rattle.std.specs.Prelude.{◌≡◌, List, Option, None, Some}
 use Rattle.ax25_frames.specs.FrameText.{FrameValue}
 use Rattle.ax25_link.specs.declared.state.Heard.{Heard}
@@ -12,7 +12,7 @@ use Rattle.ax25_link.specs.Timer.{after_tick, told_of_tick}
 use Rattle.ax25_link.specs.Calls.{Doing, DoesAll}
 use Rattle.ax25_link.specs.Sending.{IsQuiet, Drains}
 
--- what comes to an end
+-- what an end is given
 pub data Coming : Type 0 where
   -- a frame from the peer
   frame : FrameValue → Coming
@@ -22,18 +22,18 @@ abbrev pub after_coming : Window → LinkEnd → Coming → LinkEnd
 after_coming w end (frame f) = after_frame w end f
 after_coming w end tick = after_tick end
 
--- what is told of a tick, as what is told of a frame
+-- what is reported of a tick, as what is reported of a frame
 abbrev pub heard_of_tick : Option Why → Heard
 heard_of_tick None = Nothing
 heard_of_tick (Some reason) = Closed reason
 
--- what the layer above is told
+-- what is reported to the layer above
 abbrev pub heard_of_coming : Window → LinkEnd → Coming → Heard
 heard_of_coming w end (frame f) = heard_of w end f
 heard_of_coming w end tick = heard_of_tick (told_of_tick end)
 
--- Nothing is to be sent by the old end. This comes, of which this is told; the layer above does this; these frames are
--- sent, and then nothing is to be sent by the new end.
+-- Nothing is to be sent by the old end. This comes, and this is reported of it; the layer above does this; these frames
+-- are sent, and then nothing is to be sent by the new end.
 pub record LinkStep
     (w : Window) (old : LinkEnd) (coming : Coming) (heard : Heard) (doings : List Doing) (frames : List FrameValue)
     (new : LinkEnd) : Type 0 where

@@ -1,5 +1,5 @@
--- What holds of the two ends of an attempt and of all that they sent, in every lawful run. Between events nothing is to be
--- sent; the definitions hold also in between, while frames are still to be sent.
+-- What is true of the two ends of an attempt and of all that they sent, in every lawful run. Between events nothing is
+-- to be sent; the definitions hold also in between, while frames are still to be sent.
 use Rattle.std.specs.Prelude.{◌≡◌, ℕ, ◌+◌, ◌%◌, ◌<◌, ◌≤◌, List, [], ◌++◌, length, take, slice_get, true, Option, None, Some, if◌then◌else◌, IsTrue}
 use Rattle.std.specs.List.{concat}
 use Rattle.ax25_frames.specs.declared.control.Control.{Control}
@@ -44,12 +44,12 @@ IsInformationAt list place t = IsAt list place t × IsTrue (is_information (cont
 abbrev pub IsNumberedAt : List Transmission → ℕ → Transmission → Type 0
 IsNumberedAt list place t = IsAt list place t × IsTrue (is_numbered (control_of t))
 
--- The whole numbers behind a station's transmissions are given by places: behind an I frame the place of its piece among
--- those sent, and behind an I or S frame how many pieces its sender had accepted.
+-- The whole numbers of a station's transmissions are given by places: of an I frame the place of its piece among those
+-- sent, and of an I or S frame how many pieces its sender had accepted.
 
--- The number behind each I frame: N(S) shows it, and the frame carries that piece. The pieces that were sent since are at
--- most k more than the frames that were sent since, and each earlier I frame's number is less than k above. While no I or
--- S frame sent later was delivered, the peer has accepted at most k pieces from this one on.
+-- The whole number of each I frame: N(S) shows it, and the frame carries that piece. The pieces that were sent since
+-- are at most k more than the frames that were sent since, and each earlier I frame's number is less than k above.
+-- While no I or S frame sent later was delivered, the peer has accepted at most k pieces from this one on.
 pub record PiecesFit
     (w : Window) (pieces : List (List ℕ)) (peer_taken : ℕ) (list : List Transmission) (piece : ℕ → ℕ) : Type 0 where
   pub shows :
@@ -67,10 +67,10 @@ pub record PiecesFit
   pub accepted :
       (place : ℕ) (t : Transmission) → IsInformationAt list place t → NoneLater list place → peer_taken ≤ piece place + w.size
 
--- The number behind each I or S frame: N(R) shows it. It is at most what the sender has accepted, and the frames that were
--- sent since are at least as many as the pieces that were accepted since. No earlier I or S frame's number is above it.
--- While no I or S frame sent later was delivered, the peer takes no more pieces as acknowledged. `owed` is 1 while a reply
--- is to be sent, else 0.
+-- The whole number of each I or S frame: N(R) shows it. It is at most what the sender has accepted, and the frames that
+-- were sent since are at least as many as the pieces that were accepted since. No earlier I or S frame's number is
+-- above it. While no I or S frame sent later was delivered, the peer takes no more pieces as acknowledged. `owed` is 1
+-- while a reply is to be sent, else 0.
 pub record ShownFit (w : Window) (taken owed peer_acked : ℕ) (list : List Transmission) (shown : ℕ → ℕ) : Type 0 where
   pub shows : (place : ℕ) (t : Transmission) → IsNumberedAt list place t → ack_number (control_of t) ≡ shown place % w.modulus
   pub reached : (place : ℕ) (t : Transmission) → IsNumberedAt list place t → shown place ≤ taken
@@ -94,8 +94,8 @@ pub record Station : Type 0 where
   pub end : LinkEnd
   pub transmissions : List Transmission
 
--- What the sender knows as acknowledged, the peer has accepted; what the peer has accepted, the sender has sent; and that
--- is at most k pieces more than what it knows as acknowledged. Whole numbers fit the sender's transmissions.
+-- What the sender knows as acknowledged, the peer has accepted; what the peer has accepted, the sender has sent; and
+-- that is at most k pieces more than what it knows as acknowledged. Whole numbers fit the sender's transmissions.
 pub record NumbersFit (w : Window) (sender peer : Station) : Type 0 where
   pub acked : sender.end.acked ≤ taken_count peer.end
   pub taken : taken_count peer.end ≤ high sender.end

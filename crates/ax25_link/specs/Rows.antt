@@ -1,5 +1,5 @@
--- What a received frame does, row by row of the table of docs/FORMATS.md (AX.25 2.0, 2.4.3, 2.4.4). Nothing is to be sent
--- when a frame is taken.
+-- What a received frame does, row by row of the table of docs/FORMATS.md (AX.25 2.0, 2.4.3, 2.4.4). Nothing is to be
+-- sent when a frame is taken.
 use Rattle.std.specs.Prelude.{ℕ, ◌==◌, [], ◌∷◌, ◌++◌, Bool, true, false, ◌&&◌, ◌||◌, if◌then◌else◌, Option, None, Some}
 use Rattle.ax25_frames.specs.declared.control.Control.{Control}
 use Rattle.ax25_frames.specs.declared.control.Control.TheVariants.{I, Rr, Rnr, Rej, Sabm, Disc, Dm, Ua, Frmr, Ui}
@@ -15,7 +15,7 @@ use Rattle.ax25_link.specs.Ends.{LinkEnd, Reply, ready, reject, accept, refuse, 
 use Rattle.ax25_link.specs.Acknowledging.{meaning_of, applying, is_good, is_bad, with_timer_anew}
 use Rattle.ax25_link.specs.Frames.{receive_number, refusal_octets}
 
--- the end after a frame was taken, and what the layer above is told of it
+-- the end after a frame was taken, and what is reported of it to the layer above
 pub record Outcome : Type 0 where
   pub after : LinkEnd
   pub heard : Heard
@@ -23,7 +23,7 @@ pub record Outcome : Type 0 where
 abbrev pub outcome : LinkEnd → Heard → Outcome
 outcome after heard = record { after = after; heard = heard }
 
--- nothing changes, and nothing is told
+-- nothing changes, and nothing is reported
 abbrev pub passed_over : LinkEnd → Outcome
 passed_over end = outcome end Nothing
 
@@ -43,7 +43,7 @@ is_oldest call = false
 is_oldest disconnect = false
 is_oldest enquire = false
 
--- what is to be sent first, where that is no I frame
+-- what is to be sent first, if that is no I frame
 abbrev pub unless_oldest : Option Reply → Option Reply
 unless_oldest None = None
 unless_oldest (Some reply) = if is_oldest reply then None else Some reply
@@ -71,7 +71,7 @@ accepting end frame =
     outcome
     (replying (record end { taken = end.taken ++ frame.kind.information ∷ []; rejecting = false }) (ready frame.poll)) Bytes
 
--- An I frame out of sequence, whose N(R) was applied: REJ replies, or RR where a REJ is outstanding (2.4.4.3).
+-- An I frame out of sequence, whose N(R) was applied: REJ replies, or RR if a REJ is outstanding (2.4.4.3).
 abbrev pub out_of_sequence : LinkEnd → FrameValue → Outcome
 out_of_sequence end frame =
     passed_over
@@ -100,7 +100,7 @@ abbrev pub numbered_row : Window → LinkEnd → FrameValue → ℕ → (LinkEnd
 numbered_row w end frame nr row =
     if is_bad (meaning_of w end nr) then refusing w end frame else row (applying end (meaning_of w end nr))
 
--- SABM while up: an end that answers begins anew, with a UA to be sent (2.4.6); one that called passes it over
+-- SABM while up: an end that answers begins again, with a UA to be sent (2.4.6); one that called ignores it
 abbrev pub called_again : LinkEnd → FrameValue → Outcome
 called_again end frame =
     if end.called then passed_over end else outcome (answering_end end.me end.peer frame.poll) Reopened
@@ -171,7 +171,7 @@ row_of_state Up w end frame = up_row w end frame frame.kind.control
 row_of_state Ending w end frame = ending_row end frame frame.kind.control
 row_of_state Down w end frame = down_row end frame
 
--- the end after this frame is taken, and what the layer above is told
+-- the end after this frame is taken, and what is reported to the layer above
 abbrev pub row : Window → LinkEnd → FrameValue → Outcome
 row w end frame = row_of_state end.state w end frame
 

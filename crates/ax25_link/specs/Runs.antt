@@ -37,15 +37,16 @@ RunLaw =
     (w : Window) (one other last_one last_other : Station) → IsWindow w → AreLinked w one other
     → Runs w one other last_one last_other → AreLinked w last_one last_other
 
--- Whatever two stations do from the answer to a SABM on, what each has accepted is a prefix of what was pushed at the other.
+-- Whatever two stations do from the answer to a SABM on, what each has accepted is a prefix of what was pushed at the
+-- other.
 abbrev pub WholeRunLaw : Type 0
 WholeRunLaw =
     (w : Window) (me peer : CallSign) (one other : Station) → IsWindow w
     → Runs w (calling_station w me peer) (answering_station peer me) one other
     → IsFront (concat other.end.taken) one.end.pushed × IsFront (concat one.end.taken) other.end.pushed
 
--- two stations after a run from the answer to a SABM on, and an I or S frame of the one, with m - k frames sent after it,
--- that shows the other a bad N(R)
+-- two stations after a run from the answer to a SABM on, and an I or S frame of the one, with m - k frames sent after
+-- it, that shows the other a bad N(R)
 pub record Misread (w : Window) (me peer : CallSign) : Type 0 where
   pub one : Station
   pub other : Station

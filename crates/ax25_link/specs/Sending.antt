@@ -1,5 +1,5 @@
--- Which frame is sent next (AX.25 2.0, 2.4.4.1). The order is: the reply or the timer's frame, then I frames that are sent
--- again, then new I frames, then the DISC or DM of an end that hangs up.
+-- Which frame is sent next (AX.25 2.0, 2.4.4.1). The order is: the reply or the timer's frame, then I frames that are
+-- sent again, then new I frames, then the DISC or DM of an end that hangs up.
 use Rattle.std.specs.Prelude.{◌≡◌, ℕ, ◌-◌, ◌==◌, List, [], ◌∷◌, ◌++◌, length, take, drop, Bool, false, not, ◌&&◌, nat_lt, if◌then◌else◌, Option, None, Some}
 use Rattle.ax25_frames.specs.FrameText.{FrameValue}
 use Rattle.ax25_link.specs.Window.{Window}
@@ -21,7 +21,7 @@ most_information = 256
 abbrev pub next_piece : LinkEnd → List ℕ
 next_piece end = take most_information end.queued
 
--- a new I frame is sent; the timer begins anew where nothing was outstanding (2.4.7.1)
+-- a new I frame is sent; the timer begins again if nothing was outstanding (2.4.7.1)
 abbrev pub with_piece : LinkEnd → LinkEnd
 with_piece end = record end { sent = end.sent ++ next_piece end ∷ []; queued = drop most_information end.queued }
 
@@ -45,7 +45,8 @@ sends_farewell end farewell = record { frame = frame_of_farewell end farewell; a
 abbrev pub is_empty : List ℕ → Bool
 is_empty octets = length octets == 0
 
--- whether a new I frame is to be sent: while up, fewer than k are outstanding, the peer isn't busy, and octets are queued
+-- whether a new I frame is to be sent: while up, fewer than k are outstanding, the peer isn't busy, and octets are
+-- queued
 abbrev pub has_new : Window → LinkEnd → Bool
 has_new w end = is_up end.state && nat_lt (outstanding end) w.size && not end.busy && not (is_empty end.queued)
 
@@ -63,7 +64,7 @@ abbrev pub sending_after : Window → LinkEnd → Option Reply → Option Sendin
 sending_after w end None = later_sending w end
 sending_after w end (Some reply) = Some (sends_reply w end reply)
 
--- what is sent next, where anything is to be sent
+-- what is sent next, if anything is to be sent
 abbrev pub next_sending : Window → LinkEnd → Option Sending
 next_sending w end = sending_after w end end.reply
 

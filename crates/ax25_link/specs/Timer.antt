@@ -43,11 +43,11 @@ runs_out end = nat_le (limit end) (end.count + 1)
 abbrev pub is_spent : LinkEnd → Bool
 is_spent end = nat_le most_tries end.tries
 
--- what is sent while up: the oldest outstanding I frame, or RR where none is outstanding (2.4.4.9)
+-- what is sent while up: the oldest outstanding I frame, or RR if none is outstanding (2.4.4.9)
 abbrev pub asking : LinkEnd → Reply
 asking end = if outstanding end == 0 then enquire else oldest
 
--- what is sent where the timer ran out, with P = 1; in state Down it never does
+-- what is sent when the timer runs out, with P = 1; in state Down it never does
 abbrev pub timer_reply : LinkState → LinkEnd → Reply
 timer_reply Calling end = call
 timer_reply Up end = asking end
@@ -67,7 +67,7 @@ after_count end =
 abbrev pub after_tick : LinkEnd → LinkEnd
 after_tick end = if is_down end.state then end else after_count end
 
--- what is told of a tick: that there is no answer, where the timer runs out after all tries are used up
+-- what is reported of a tick: that there is no answer, if the timer runs out after all tries are used up
 abbrev pub told_of_tick : LinkEnd → Option Why
 told_of_tick end =
     if is_down end.state then None else if runs_out end && is_spent end then Some why.NoAnswer else None

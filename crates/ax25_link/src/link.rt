@@ -66,8 +66,8 @@ impl Model for Link {
 }
 
 impl Link {
-    /// The end that calls: state Calling, with a SABM with P = 1 pending (2.4.3.1). At most k I frames are
-    /// outstanding at a time; `good_k(k)` holds. Takes memory, and fails only where there is none.
+    /// The end that calls: state Calling, with a SABM with P = 1 pending (2.4.3.1). At most k I frames are outstanding
+    /// at a time; `good_k(k)` holds. Takes memory, and fails only if there is none.
     pub fn call(alloc: Global, me: Call, peer: Call, k: u8) -> Result<Link, OutOfMemory>
         requires { IsGoodK k }
         ensures end { IfOk result (λ link. StandsFor (window_of k) link (calling_end me peer)) }
@@ -81,8 +81,8 @@ impl Link {
         Ok(link)
     }
 
-    /// The end that answers a SABM with this P bit: state Up, with a UA with F = `poll` pending (2.4.3.1). At most
-    /// k I frames are outstanding at a time; `good_k(k)` holds. Takes memory, and fails only where there is none.
+    /// The end that answers a SABM with this P bit: state Up, with a UA with F = `poll` pending (2.4.3.1). At most k I
+    /// frames are outstanding at a time; `good_k(k)` holds. Takes memory, and fails only if there is none.
     pub fn answer(
         alloc: Global,
         me: Call,
@@ -100,8 +100,8 @@ impl Link {
     }
 
     /// An end before its first link: state Down, with nothing pending. It has no peer until `accept` gives it one; its
-    /// own station stands in that place. At most k I frames are outstanding at a time; `good_k(k)` holds. Takes memory,
-    /// and fails only where there is none.
+    /// own station is in that place. At most k I frames are outstanding at a time; `good_k(k)` holds. Takes memory, and
+    /// fails only if there is none.
     pub fn idle(alloc: Global, me: Call, k: u8) -> Result<Link, OutOfMemory>
         requires { IsGoodK k }
         ensures end { IfOk result (λ link. StandsFor (window_of k) link (idle_end me)) }
@@ -141,7 +141,7 @@ impl Link {
     }
 
     /// Takes a frame for which `is_from_peer` holds, while nothing is pending (2.4.3, 2.4.4): the frame's row of the
-    /// table in docs/FORMATS.md. A frame that the row passes over changes nothing. `Bytes` says that the frame's
+    /// table in docs/FORMATS.md. A frame that the row ignores changes nothing. `Bytes` says that the frame's
     /// information is next in the stream. Takes no memory.
     pub fn take(&mut self, frame: &Frame<'_>) -> Heard
         requires quiet { is_pending self.old ≡ false }
@@ -186,8 +186,8 @@ impl Link {
         self.queue.free()
     }
 
-    /// Replaces `out` by the octets of the next pending frame, which is then sent. It is false, and changes
-    /// nothing, exactly where nothing is pending. Takes no memory.
+    /// Replaces `out` by the octets of the next pending frame, which is then sent. It is false, and changes nothing,
+    /// exactly when nothing is pending. Takes no memory.
     pub fn next_out(&mut self, out: &mut ArrayVec<u8, 400>) -> bool
         ensures pending { result ≡ is_pending self.old }
         ensures none { result ≡ false → IsUnchanged self.old self.new out.old.items out.new.items }
@@ -217,8 +217,8 @@ impl Link {
         self.reply.is_some() || self.again > 0 || self.has_new() || self.farewell.is_some()
     }
 
-    /// Counts a tick while nothing is pending (2.4.7.1). It is `NoAnswer`, and the link down, exactly where the
-    /// timer runs out for the eleventh time in a row. Takes no memory.
+    /// Counts a tick while nothing is pending (2.4.7.1). It is `NoAnswer`, and the link down, exactly when the timer
+    /// runs out for the eleventh time in a row. Takes no memory.
     pub fn tick(&mut self) -> Option<Why>
         requires { is_pending self.old ≡ false }
         ensures after { Steps self.old self.new (λ w end. after_tick end) }
@@ -276,7 +276,7 @@ impl Link {
         self.state
     }
 
-    /// Changes the state: ticks and tries are 0, and no I frame is pending but in state Up.
+    /// Changes the state: ticks and tries are 0, and no I frame is pending except in state Up.
     pub(crate) fn enter(&mut self, state: LinkState)
         ensures after { Steps self.old self.new (λ w end. entering end state) }
         ensures state { self.new.state ≡ state }
@@ -299,7 +299,7 @@ impl Link {
         if is_silent { T3 } else { T1 }
     }
 
-    /// What is sent where the timer ran out (2.4.7.1).
+    /// What is sent once the timer has run out (2.4.7.1).
     fn timer_frame(&self) -> Reply
         ensures end { Tells self.now (λ w end. timer_reply end.state end) (reply_value result) }
         ensures oldest { reply_value result ≡ oldest → 1 ≤ outstanding_in self.now }

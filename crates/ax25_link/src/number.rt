@@ -5,7 +5,7 @@ ghost use Rattle.std.specs.Prelude.{◌≡◌, ◌+◌, ◌-◌, ◌%◌, ◌<�
 /// How many sequence numbers there are (2.3.2.4).
 pub(crate) const MODULUS: u8 = 8;
 
-/// The number that is so many after this one.
+/// The number that comes `count` numbers after this one.
 pub(crate) fn after(number: u8, count: u8) -> u8
     requires number { number < 8 }
     requires count { count ≤ 8 }

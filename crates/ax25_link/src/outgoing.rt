@@ -79,7 +79,7 @@ impl Link {
     }
 
     /// Makes the piece of a new I frame, and says its place among those of the outstanding frames. The timer begins
-    /// anew where nothing was outstanding (2.4.7.1).
+    /// again if nothing was outstanding (2.4.7.1).
     fn cut_new(&mut self) -> u8
         requires { has_new_in self.old ≡ true }
         ensures after { Steps self.old self.new (λ w end. after_new end) }

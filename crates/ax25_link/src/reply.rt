@@ -1,5 +1,4 @@
-//! The frames that are pending beside I frames: replies, the timer's frames, and the last frame of an end that
-//! hangs up.
+//! The pending frames other than I frames: replies, the timer's frames, and the last frame of an end that hangs up.
 
 ghost use Rattle.std.specs.Prelude.{◌≡◌, ◌+◌, ◌*◌, ◌<◌, [], ◌∷◌};
 ghost use Rattle.std.specs.Option.{option_map};
@@ -66,7 +65,7 @@ pub(crate) fn without_information(reply: Option<Reply>) -> Option<Reply>
     }
 }
 
-/// The third octet of FRMR where N(R) is bad: bit Z (2.3.4.3.3).
+/// The third octet of FRMR if N(R) is bad: bit Z (2.3.4.3.3).
 const BAD_NR: u8 = 0x08;
 
 /// The information of the FRMR that refuses a frame for its N(R): its control octet, V(S), whether it was a

@@ -81,7 +81,7 @@ impl SendQueue {
         self.octets.fill_from_slice(bytes)
     }
 
-    /// Frees the octets of the oldest outstanding frames, so many.
+    /// Frees the octets of the `count` oldest outstanding frames.
     pub(crate) fn acknowledge(&mut self, count: u8)
         requires { count ≤ length self.old.pieces }
         ensures { self.new ≡ record self.old { pieces = drop count self.old.pieces } }
@@ -139,7 +139,7 @@ fn total(sizes: &[usize]) -> usize
     sizes.iter().sum()
 }
 
-/// Takes so many lengths away from the front.
+/// Removes the first `count` lengths.
 fn remove_first(sizes: &mut ArrayVec<usize, MOST_PIECES>, count: u8)
     requires { count ≤ length sizes.old.items }
     ensures { sizes.new.items ≡ drop count sizes.old.items }

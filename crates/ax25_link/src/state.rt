@@ -1,4 +1,4 @@
-//! The states of a link, and what it tells (AX.25 2.0, 2.4).
+//! The states of a link, and what it reports (AX.25 2.0, 2.4).
 
 ghost use Rattle.std.specs.Prelude.{◌≡◌, IsTrue};
 ghost use Rattle.ax25_frames.specs.Values.{value_of};
@@ -8,10 +8,10 @@ use ax25_frames::{Frame, Kind};
 
 /// The state of a link.
 ///
-/// AX.25 2.2 calls Down disconnected, Calling awaiting connection, Up connected or timer recovery, and Ending
-/// awaiting release. A line of the picture is a frame, a call or the timer, then `/` and what is sent, and in
-/// brackets what is told: if the link goes down, why. The rows of frames are in specs/Rows.antt, the timer in
-/// specs/Timer.antt, and what the layer above does in specs/Calls.antt.
+/// AX.25 2.2 calls Down disconnected, Calling awaiting connection, Up connected or timer recovery, and Ending awaiting
+/// release. A line of the picture is a frame, a call or the timer, then `/` and what is sent, and in brackets what is
+/// reported: if the link goes down, why. The rows of frames are in specs/Rows.antt, the timer in specs/Timer.antt, and
+/// what the layer above does in specs/Calls.antt.
 ///
 /// ```text
 ///             Link::idle
@@ -93,7 +93,7 @@ pub enum Why {
 /// What a frame did to the link, as far as a layer above needs it.
 #[derive(Clone, Copy, Debug, PartialEq, Eq)]
 pub enum Heard {
-    /// Nothing that is to be told.
+    /// Nothing to report.
     Nothing,
     /// The peer answered the call: the link is up (2.4.3.1).
     Opened,
@@ -105,7 +105,7 @@ pub enum Heard {
     Closed(Why),
 }
 
-/// The information of an I frame: what is next in the stream where the link told `Bytes` of it.
+/// The information of an I frame: what is next in the stream if the link reported `Bytes` for it.
 pub fn information<'a>(frame: &Frame<'a>) -> &'a [u8]
     ensures { IsTrue (is_information (value_of frame.now).kind.control)
         → result.now ≡ (value_of frame.now).kind.information }

@@ -97,7 +97,7 @@ impl Link {
         }
     }
 
-    /// An S frame in state Up, with this control octet where its P/F bit is 0. It says whether the peer is busy,
+    /// An S frame in state Up, with this control octet once its P/F bit is cleared. It says whether the peer is busy,
     /// and whether all outstanding frames are to be sent again (2.4.4.5 to 2.4.4.9).
     fn take_supervisory(
         &mut self,
@@ -125,7 +125,7 @@ impl Link {
         }
     }
 
-    /// What N(R) means; where it isn't bad, it is applied (2.4.4.5).
+    /// What N(R) means; if it isn't bad, it is applied (2.4.4.5).
     fn apply(&mut self, nr: u8) -> Acknowledgement
         requires quiet { is_pending self.old ≡ false }
         requires nr { nr < 8 }
@@ -143,7 +143,7 @@ impl Link {
         meaning
     }
 
-    /// So many outstanding frames are acknowledged. Ticks and tries are 0 where there are any, and where nothing is
+    /// This number of outstanding frames is acknowledged. Ticks and tries are 0 if there are any, or if nothing is
     /// outstanding then (2.4.7.1).
     fn acknowledge(&mut self, count: u8)
         requires quiet { self.old.again ≡ 0 }
@@ -159,7 +159,7 @@ impl Link {
         }
     }
 
-    /// An I frame whose N(R) was applied: it is accepted where its number is the next one (2.4.4.2, 2.4.4.3).
+    /// An I frame whose N(R) was applied: it is accepted if its number is the next one (2.4.4.2, 2.4.4.3).
     fn take_numbered(&mut self, frame: &Frame<'_>, ns: u8) -> Heard
         ensures row { Takes self.old self.new (λ w end. information_row w end (value_of frame.now) ns) result }
     {
@@ -192,7 +192,7 @@ impl Link {
         Heard::Nothing
     }
 
-    /// SABM in state Up: the end that answers begins anew, the one that called passes it over (2.4.6).
+    /// SABM in state Up: the end that answers begins again, the one that called ignores it (2.4.6).
     fn take_sabm(&mut self, frame: &Frame<'_>) -> Heard
         requires { self.old.state ≡ LinkState.Up }
         ensures row { Takes self.old self.new (λ w end. called_again end (value_of frame.now)) result }
@@ -228,7 +228,7 @@ impl Link {
         Heard::Closed(Why::Disc)
     }
 
-    /// A frame with a bad N(R), and this control octet where its P/F bit is 0: FRMR, and down (2.3.4.3.3, 2.4.5).
+    /// A frame with a bad N(R), and this control octet once its P/F bit is cleared: FRMR, and down (2.3.4.3.3, 2.4.5).
     fn reject(&mut self, frame: &Frame<'_>, control: u8) -> Heard
         requires control { control < 240 }
         requires octet { control + 16 * bit frame.now.poll

@@ -35,7 +35,7 @@ pub(crate) struct Timer {
 pub(crate) const ANEW: Timer = Timer { ticks: 0, tries: 0 };
 
 impl Timer {
-    /// Counts a tick, where so many make the limit.
+    /// Counts a tick; `limit` ticks are the limit.
     pub(crate) fn tick(&mut self, limit: u8) -> Expiry
         requires { self.old.ticks < 255 }
         ensures { HasTicked result self.old self.new limit }

@@ -6,8 +6,8 @@ ghost use Rattle.ax25_link.specs.Window.{IsGoodK};
 
 use crate::number::{MODULUS, distance};
 
-/// Whether so many I frames may be outstanding, k of the standard: at least one, and fewer than there are sequence
-/// numbers, so 1 to 7 (2.4.7.4).
+/// Whether this number of I frames may be outstanding, k of the standard: at least one, and fewer than there are
+/// sequence numbers, so 1 to 7 (2.4.7.4).
 pub fn good_k(k: u8) -> bool
     ensures { IsTrue result ↔ IsGoodK k }
 {
@@ -17,7 +17,7 @@ pub fn good_k(k: u8) -> bool
 /// What a received N(R) means to the sender of the frames that it speaks of (2.4.4.5).
 #[derive(Clone, Copy)]
 pub(crate) enum Acknowledgement {
-    /// So many outstanding frames are acknowledged.
+    /// This number of outstanding frames is acknowledged.
     Good(u8),
     /// It is from before the last acknowledgement.
     Stale,
@@ -25,7 +25,7 @@ pub(crate) enum Acknowledgement {
     Bad,
 }
 
-/// What N(R) means where V(A) is `acked`, so many frames are outstanding, and the window is k.
+/// What N(R) means if V(A) is `acked`, `outstanding` frames are outstanding, and the window is k.
 pub(crate) fn judge(nr: u8, acked: u8, outstanding: u8, k: u8) -> Acknowledgement
     requires nr { nr < 8 }
     requires acked { acked < 8 }

@@ -22,7 +22,7 @@ pub makes-within : (low high least most : ℕ) (store : Store) (commands : List 
 makes-within = makes_within store_form
 
 module _ {D : Type 0} (g : Ghosts D) where
-  -- what a store stands for on its disk, where it stands there
+  -- what a store stands for on its disk, if it is on it
   pub kept-on : (self : StoreState) (disk : D) → StandsOn g self disk → IsKept g store_form (kept_at g self disk)
   kept-on self disk stands = held_kept g placed_steps seen store_form placed_seen self.journal (placed_in self) disk stands
 

@@ -15,7 +15,8 @@ ending-allowed store number moment entry held None found is all good =
 ending-allowed store number moment entry held (Some code) found is all bad =
     subst (λ (o : Option Entry). IsTrue (passes (λ e. is_partial e.holding) o)) (sym found) (subst (λ (h : Holding). IsTrue (is_partial h)) (sym is) refl)
 
--- An entry under way that lacks no more octets than these: what it is once they are held, and that it may be ended then.
+-- An entry under way that lacks no more octets than these: what it is once they are held, and that it may be ended
+-- then.
 module _ (store : Store) (number : ℕ) (entry : Entry) (held rest : List ℕ) (found : entry_of store number ≡ Some entry) (is : entry.holding ≡ partial held) where
   pub entry-then : entry_of (after_all store (last_grow number rest)) number ≡ Some (record entry { holding = partial (held ++ rest) })
   entry-then =
@@ -32,9 +33,9 @@ module _ (store : Store) (number : ℕ) (entry : Entry) (held rest : List ℕ) (
         tt,
       )
 
--- ---- a file under way, as memory tells of it and as a disk does
+-- ---- a file under way, as memory shows it and as a disk does
 
--- the file of this number, of which memory tells this, and that it is under way
+-- the file of this number, of which memory shows this, and that it is under way
 pub record IsUnder (self : StoreState) (number : ℕ) (entry : Entry) : Type 0 where
   pub file : Placed
   pub found : placed_of (placed_in self) number ≡ Some file
@@ -50,7 +51,7 @@ module _ (self : StoreState) (number : ℕ) (entry : Entry) (one : IsUnder self 
   abbrev file : Placed
   file = one.file
 
-  -- so many octets are held as memory tells
+  -- as many octets are held as memory shows
   pub under-held : (held : List ℕ) → entry.holding ≡ partial held → length held ≡ file.held
   under-held held is =
       let here : partial held ≡ holding_of (replicate file.held 0) (option_map (λ (m : Seal). m.moment) file.seal) = sym is ∙ ap (λ (e : Entry). e.holding) one.is in
@@ -107,7 +108,7 @@ module _ (self : StoreState) (number : ℕ) (whole : IsWholeWaiting self number)
 
 -- ---- the same file once all octets are held
 
--- the octets that wait are held: what memory tells
+-- the octets that wait are held: what memory shows
 pub outlined-last : (number : ℕ) (rest : List ℕ) → outlined_all (last_grow number rest) ≡ last_grow number (replicate (length rest) 0)
 outlined-last number [] = refl
 outlined-last number (x ∷ xs) = refl

@@ -1,4 +1,4 @@
--- What Grows of one file leave of the others, and what memory tells of it then.
+-- What Grows of one file leave of the others, and what memory shows of it then.
 use Rattle.std.proofs.Common.{◌≡◌, ℕ, zero, suc, List, [], ◌∷◌, length, map, replicate, take, drop, refl, sym, ◌∙◌, ap, arith}
 use Rattle.std.specs.Prelude.{option_map}
 use Rattle.std.proofs.lemmas.Simd.{splat_is_map}
@@ -32,7 +32,7 @@ pub find-held : (number : ℕ) (change : Entry → Holding) (entries : List Entr
 find-held number change [] = refl
 find-held number change (x ∷ xs) = grind (arith, nat_tests, find-held number change xs)
 
--- ---- as far as memory tells
+-- ---- as far as memory shows
 
 abbrev zero_of : ℕ → ℕ
 zero_of octet = 0
@@ -47,6 +47,6 @@ outlined-map number (suc n) octets =
     ∙ ap (λ (cs : List Command). grow number (take 512 (map zero_of octets)) ∷ cs)
     (outlined-map number n (drop 512 octets) ∙ ap (λ (os : List ℕ). grows number n os) (sym (drop-map zero_of 512 octets)))
 
--- Grows of octets are told of as Grows of as many zeros
+-- Grows of octets are shown as Grows of as many zeros
 pub outlined-grows : (number n : ℕ) (octets : List ℕ) → outlined_all (grows number n octets) ≡ grows number n (replicate (length octets) 0)
 outlined-grows number n octets = outlined-map number n octets ∙ ap (λ (os : List ℕ). grows number n os) (sym (zeros-map octets))

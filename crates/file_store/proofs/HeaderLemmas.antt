@@ -1,4 +1,4 @@
--- What tells that octets are a header in which each mandatory item stands.
+-- What shows that octets are a header in which each mandatory item occurs.
 use Rattle.std.proofs.Common.{◌≡◌, ℕ, List, [], ◌∷◌, Bool, true, refl, sym, ◌∙◌, ap, subst}
 use Rattle.std.specs.Prelude.{if◌then◌else◌}
 use Rattle.pfh_items.specs.Layout.{HeaderText, ItemValue}
@@ -8,11 +8,11 @@ use Rattle.pfh_items.proofs.Offered.{file_parts-text, HeaderText-FileText, once_
 use Rattle.pfh_writer.specs.Short.{HasEachOnce}
 use Rattle.file_store.proofs.Names.{AllByRecursion, list_all, and_from, eq-eqb, IsWholeHeader, header_items, parts_or_none, StandsOnce, has_none, is_one_of_len, items_with}
 
--- whether one item of an id stands with its length, where one was found already or not, and these are left
+-- whether one item of an id occurs with its length, when one was found already or not, and these are left
 abbrev pub once_still : Bool → ℕ → List ItemValue → Bool
 once_still once len found = if once then has_none found else is_one_of_len len found
 
--- whether each mandatory item stands once in these items, and has its length
+-- whether each mandatory item occurs once in these items, and has its length
 abbrev pub has_each_once : List ItemValue → Bool
 has_each_once items = list_all (λ rule. is_one_of_len rule.len (items_with rule.id items)) mandatory_items
 
@@ -21,7 +21,7 @@ each-test items [] all = refl
 each-test items (rule ∷ rules) (one, all) =
     and_from _ _ (ap (is_one_of_len rule.len) one.1 ∙ eq-eqb _ _ one.2) (each-test items rules all)
 
--- these octets are the header with these items, and each mandatory one stands once exactly where the test says so
+-- these octets are the header with these items, and each mandatory one occurs once exactly when the test says so
 module _ (items : List ItemValue) (octets : List ℕ) (text : HeaderText items octets) where
   items-are : header_items octets ≡ items
   items-are = ap (λ (p : _). (parts_or_none p).items) (file_parts-text items [] octets (HeaderText-FileText items octets text))

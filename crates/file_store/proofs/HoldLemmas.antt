@@ -36,7 +36,7 @@ module _ {D : Type 0} (g : Ghosts D) where
       rests = to.rests;
     }
 
-    -- of a store from which this one came by octets that came to wait, or that wait no more
+    -- of a store from which this one came by octets that began to wait, or that wait no more
     pub DoesTo-from : (P : Type 0) (before old new : StoreState) (rest : Option (List ℕ)) → ChangesRest before.files old.files number rest → old.journal ≡ before.journal
         → DoesTo g P old new disk disk_now commands number → DoesTo g P before new disk disk_now commands number
     DoesTo-from P before old new rest changes journal to =
@@ -185,7 +185,7 @@ module _ (self mid : StoreState) (number n : ℕ) (bytes lacking later : List �
 
 -- ---- one block after another
 
--- so many blocks, and then so many
+-- m blocks, and then n more
 grows-add : (number m n : ℕ) (octets : List ℕ) → grows number (m + n) octets ≡ grows number m octets ++ grows number n (drop (512 * m) octets)
 grows-add number zero n octets = ap (λ (k : ℕ). grows number k octets) (zero-add n)
 grows-add number (suc m) n octets =
@@ -195,7 +195,7 @@ grows-add number (suc m) n octets =
     ∙ ap (λ (commands : List Command). grow number (take 512 octets) ∷ commands)
     (grows-add number m n (drop 512 octets) ∙ ap (λ (rest : List ℕ). grows number m (drop 512 octets) ++ grows number n rest) (drop-drop (512 * m) 512 octets ∙ ap (λ (k : ℕ). drop k octets) place))
 
--- of these octets so many blocks were held, and these are left
+-- of these octets `i` blocks were held, and these are left
 module _ (number i : ℕ) (all now : List ℕ) (left : now ≡ drop (512 * i) all) where
   pub left-later : drop 512 now ≡ drop (512 * (i + 1)) all
   left-later =

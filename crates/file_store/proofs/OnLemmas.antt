@@ -1,4 +1,4 @@
--- A store on its disk, and the same as far as memory tells.
+-- A store on its disk, and the same as far as memory shows.
 use Rattle.std.proofs.Common.{◌≡◌, List, [], ◌∷◌, ℕ, Option, None, Some, inl, inr, refl, sym, ◌∙◌, ap, subst}
 use Rattle.file_store_model.specs.Like.{AreLike, IsAsFar, IsStoreLike}
 use Rattle.file_journal.specs.Position.{Position}
@@ -18,7 +18,7 @@ like-same : (store : Store) → IsStoreLike store store
 like-same store = record { entries = are-same store.entries; next = refl; blocks = refl }
 
 module _ {D : Type 0} (g : Ghosts D) where
-  -- what is known of the octets the disk tells
+  -- what is known of the octets is observed of the disk
   pub known_told : (disk : D) → IsKnown g disk → IsTold (g.content disk)
   known_told disk (inl growing) = absurd (cc growing)
   known_told disk (inr told) = told
@@ -45,13 +45,13 @@ module _ {D : Type 0} (g : Ghosts D) where
   pub on_parked : (old new : StoreState) (disk : D) → store_of new.files ≡ store_of old.files → store_on g new disk ≡ store_on g old disk
   on_parked old new disk same = ap (seen (blocks_on (g.content disk))) same
 
-  -- which stand on the disk still
+  -- which are still on the disk
   pub stands_parked : (old new : StoreState) (disk : D) → store_of new.files ≡ store_of old.files → new.journal ≡ old.journal → StandsOn g old disk → StandsOn g new disk
   stands_parked old new disk same journal stands =
       subst (λ (p : Position). StandsAt g store_form placed_steps p (placed_in new) disk) (sym journal)
       (subst (λ (s : PlacedStore). StandsAt g store_form placed_steps old.journal s disk) (sym same) stands)
 
-  -- what memory tells, but for the octets
+  -- what memory shows, except for the octets
   pub on_like : (self : StoreState) (disk : D) → IsReady g self disk → IsKnown g disk → IsStoreLike (store_in self) (store_on g self disk)
   on_like self disk ready known = seen_like (blocks_on (g.content disk)) (placed_in self) ready.stands_on.holds.reached (on-seals self disk ready known)
 
@@ -66,7 +66,7 @@ in_parked old new same = ap outlined same
 -- ---- whether it is known what the files hold or not
 
 module _ {D : Type 0} (g : Ghosts D) (self : StoreState) (disk : D) (ready : IsReady g self disk) where
-  -- on a disk that tells nothing it is what memory tells
+  -- on a disk of which nothing is observed it is what memory shows
   at_none : g.content disk ≡ None → store_on g self disk ≡ store_in self
   at_none is = ap (λ (o : Option (List ℕ)). seen (blocks_on o) (placed_in self)) is ∙ seen_zeros (placed_in self) ready.stands_on.holds.reached
 

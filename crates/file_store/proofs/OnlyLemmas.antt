@@ -1,4 +1,4 @@
--- What is the same of a store where the file of one number alone changed.
+-- What is the same of a store if the file of one number alone changed.
 use Rattle.std.proofs.Common.{◌≡◌, ℕ, List, [], ◌∷◌, take, Option, None, Some, inl, inr, refl, sym, ◌∙◌, ap, subst}
 use Rattle.std.specs.Prelude.{option_map}
 use Rattle.file_store.proofs.Names.{IsTrue, eqb_tells, Command, after, after_all, grown, with_holding, is_complete, KeepsComplete, Entry, Holding, Store, entry_of, partial, find-map-changed_other, never-both, ChangesEntry, OnlyChanges, after_first, outlined_all}
@@ -25,7 +25,7 @@ only-then number before mid now first second = record {
       (was.0, was.1, last.2 ∙ ap (λ (e : Entry). record e { holding = entry.holding }) was.2);
 }
 
--- each entry stood before
+-- each entry was there before
 pub only-changes : (number : ℕ) (before now : Store) → OnlyChanges before now number → ChangesEntry before now number
 only-changes number before now only other entry found =
     elim (eqb_tells other number) [

@@ -87,7 +87,7 @@ module _ {D T : Type 0} (g : Ghosts D) (old new : StoreState) (disk disk_now : D
             (order-parked g _ old new after disk disk_now (first_of old up) last same journal ends.order);
       }
 
--- which commands they are is known where the octets of the file are
+-- which commands they are is known if the octets of the file are
 pub seals-known : {D T : Type 0} (g : Ghosts D) (result : Result T SealRefusal) (old new : StoreState) (disk disk_now : D) (up : Upload) (moment : ℕ) → SealsFile g result old new disk disk_now up moment
     → IsKnown g disk → DoesAmongReads g (IsErrOf result seal_refusal.Disk) (seal_missed result) old new disk disk_now (seal_commands result (store_on g old disk) old up moment)
 seals-known g result old new disk disk_now up moment seals known =

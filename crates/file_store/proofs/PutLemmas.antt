@@ -1,4 +1,4 @@
--- What a change of the entries makes of what memory tells.
+-- What a change of the entries makes of what memory shows.
 use Rattle.std.proofs.Common.{◌≡◌, ℕ, ◌+◌, ◌≤◌, ◌<◌, Bool, not, [], ◌∷◌, length, replicate, nat_le, nat_lt, Option, None, Some, Result, Ok, Err, IsErr, OnOk, OnErr, inl, inr, refl, sym, ◌∙◌, ap, subst, arith}
 use Rattle.std.specs.Prelude.{◌&&◌}
 use Rattle.file_store_model.specs.Bars.{Bars}
@@ -10,7 +10,7 @@ use Rattle.file_store.proofs.Names.{IfErr, IfNone, IsErrAnd, IsTrue, is_some, an
 use Rattle.file_store.proofs.TokenLemmas.{IsFileUnder, file-under}
 use Rattle.file_store.proofs.TurnLemmas.{waits-length}
 
--- ---- whether a file can be begun, as far as memory tells
+-- ---- whether a file can be begun, as far as memory shows
 
 module _ (held : Blocks) (store : PlacedStore) where
   count-shown : entry_count (outlined store) ≡ entry_count (seen held store)
@@ -44,7 +44,7 @@ bar-refuses self TooMany file_length bars = bars
 bar-refuses self NumbersGone file_length bars = bars
 bar-refuses self (NoRoom blocks free) file_length bars = bars
 
--- what is said of every content of the blocks, of a store that is another's value
+-- what is claimed for every content of the blocks, of a store that is another's value
 pub begin-barred : (inside self : StoreState) (bar : BeginBar) (file_length : ℕ) → inside ≡ self → ((held : Blocks) → Bars bar (seen held (placed_in inside)) file_length)
     → RefusesBegin self file_length (refusal_of_bar bar)
 begin-barred inside self bar file_length same bars =
@@ -110,7 +110,7 @@ module _ (self : StoreState) (number count : ℕ) (fills : FillsBlock self numbe
     has = ((fills.waits.rest, fills.waits.out, fills.all), fills-grows block lowest, lowest);
   }
 
-  -- what memory tells then
+  -- what memory shows then
   pub hold-whole : (new : StoreState) (block : ℕ) → IsPlaced (placed_in self) → IsLowest (placed_in self) block → MakesOf (change.Hold number block count) self.files new.files
       → store_in new ≡ after_all (store_in self) (outlined_all (grow number (waiting_in self.files number) ∷ []))
   hold-whole new block is lowest makes =

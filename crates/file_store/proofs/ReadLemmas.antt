@@ -15,7 +15,7 @@ module _ (self : StoreState) (number : ℕ) (whole : IsCompleteIn (store_in self
       by (f, found, is) = mark-of f found f.seal refl is
 
 module _ (self : StoreState) (number : ℕ) (sealed : Sealed (placed_in self) number) where
-  -- it is as long as memory tells
+  -- it is as long as memory shows
   pub sealed-length : length (octets_at (entry_of (store_in self) number)) ≡ sealed.file.held
   sealed-length =
       ap (λ (o : Option Entry). length (octets_at o)) (outlined_found (placed_in self) number ∙ ap (option_map outlined_entry) sealed.found)
@@ -40,7 +40,7 @@ then-ok (Err e) P Q there is = tt
 pub fills-same : (one other : List ℕ) (at count : ℕ) (room : List ℕ) → one ≡ other → FillsRoom one at count room → FillsRoom other at count room
 fills-same one other at count room same fills = subst (λ (octets : List ℕ). FillsRoom octets at count room) same fills
 
--- what fits a file is no longer than memory tells
+-- what fits a file is no longer than memory shows
 pub fits-inside : (self : StoreState) (number len : ℕ) → IsSomeAnd (placed_of (placed_in self) number) (λ f. len ≤ f.held) → len ≤ length (octets_at (entry_of (store_in self) number))
 fits-inside self number len fits =
     by (placed_of (placed_in self) number) refl fits

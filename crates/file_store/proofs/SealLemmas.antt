@@ -65,7 +65,7 @@ module _ {D : Type 0} (g : Ghosts D) where
 
   -- ---- a store of which one file changed
 
-  -- each other file is as it was, and that one was there before, and is what it was but for how far it has come
+  -- each other file is as it was, and that one was there before, and is what it was except for how far it has come
   leaves-placed : (old new : StoreState) (disk_now : D) (number : ℕ) → StandsOn g new disk_now → KeepsRests old.files new.files number
       → ((placed_in new).next ≡ (placed_in old).next) × ((placed_in new).blocks ≡ (placed_in old).blocks)
       → ((other : ℕ) → other ≢ number → placed_of (placed_in new) other ≡ placed_of (placed_in old) other)
@@ -107,7 +107,7 @@ module _ {D : Type 0} (g : Ghosts D) where
       (λ other ne. ap (λ (s : PlacedStore). placed_of s other) becomes.store_is ∙ without_leaves (placed_in old) number other ne)
       (λ entry found. absurd (cc (sym (dropped-gone old new number becomes) ∙ found)))
 
-  -- nothing changed but that the upload isn't out any more
+  -- nothing changed except that the upload isn't out any more
   pub parked-leaves : (old new : StoreState) (disk_now : D) (number : ℕ) → StandsOn g new disk_now → Becomes old.files new.files (placed_in old) number None → LeavesOthers g old new disk_now number
   parked-leaves old new disk_now number stands becomes = record {
     stands_on = stands;
@@ -219,7 +219,7 @@ module _ {D : Type 0} (g : Ghosts D) (old : StoreState) (disk : D) (number momen
     pub ends-partial : Passes (placed_in mid) number is_partial
     ends-partial = mid-partial old mid number whole made
 
-    -- where it is known what the files hold, its octets are those that came
+    -- if it is known what the files hold, its octets are those that came
     come-known : IsKnown g disk
         → octets_in (blocks_on (g.content disk_mid)) (mid-under old mid number whole made).file ≡ come_of (store_on g old disk) old number
     come-known known =

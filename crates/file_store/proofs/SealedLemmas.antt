@@ -32,7 +32,7 @@ module _ {D : Type 0} (g : Ghosts D) (self new : StoreState) (disk disk_now : D)
   abbrev on : Store
   on = store_on g self disk
 
-  -- it is complete, where it is known what the files hold
+  -- it is complete, if it is known what the files hold
   module _ (ends : EndsFile g (Ok end.Sealed) self new disk disk_now up.number moment) where
     ended-good : IsKnown g disk → fault_code (octets_come on self up) ≡ None
     ended-good known = (ends.file).3 known

@@ -1,4 +1,4 @@
--- What stands through a recovery of the store and the calls that come behind it, of which the disk may have cut off the
+-- What stays through a recovery of the store and the calls that come after it, of which the disk may have cut off the
 -- last.
 use Rattle.std.proofs.Common.{◌≡◌, ℕ, List, IfSome}
 use Rattle.file_journal.specs.Recovery.{IsSyncedFirst}

@@ -1,11 +1,11 @@
--- What stands in every image of a disk on which a store stands.
+-- What is true in every image of a disk on which a store is.
 use Rattle.std.proofs.Common.{◌≡◌, ℕ, false, List, length, replicate, Option, None, Some, IfSome, refl, sym, ◌∙◌, ap, arith}
 use Rattle.file_store.proofs.Names.{IsSome, option_map, length-replicate, Ghosts, IsPlaced, outlined, outlined_entry, Placed, PlacedStore, Seal, placed_of, placed_seen, entry_with, holding_with, octets_in, seen, entry_seen, found_length, outlined_found, images_now, Blocks, blocks_on, images_here, told_weaker, Entry, Holding, entry_of, holding_of, octets_of, partial, HoldsInEach, StandsInEach, kept_at, StandsFor, StandsOn, StoreState, placed_in, store_form, store_on, Holds, Upload, entry_for}
 use Rattle.file_store.proofs.DoesLemmas.{kept-on}
 
 -- ---- what the blocks hold of a file that is under way
 
--- The entry stands there, with as many octets.
+-- The entry is there, with as many octets.
 pub record IsSeenPartial (held : Blocks) (store : PlacedStore) (number count : ℕ) (entry : Entry) : Type 0 where
   pub octets : List ℕ
   pub found : entry_of (seen held store) number ≡ Some (record entry { holding = partial octets })
@@ -16,7 +16,7 @@ unsealed : (count : ℕ) (seal : Option Seal) (zeros : List ℕ) → holding_of 
 unsealed count None zeros is = (refl, ap (λ (h : Holding). length (octets_of h)) (sym is) ∙ length-replicate {A = ℕ} count 0)
 unsealed count (Some s) zeros is = absurd (cc is)
 
--- The file of this number, of which memory tells this entry, with so many octets: it has no seal.
+-- The file of this number, of which memory shows this entry, with this many octets: it has no seal.
 pub record IsFileUnder (store : PlacedStore) (number count : ℕ) (entry : Entry) : Type 0 where
   pub file : Placed
   pub found : placed_of store number ≡ Some file
@@ -49,7 +49,7 @@ seen-partial held store number is entry zeros partial_is there =
       many = found_length held store number f is under.found ∙ under.many;
     }
 
--- where memory tells of an entry there is a file
+-- If memory shows an entry, there is a file.
 pub placed-there : (store : PlacedStore) (number : ℕ) (entry : Entry) → entry_of (outlined store) number ≡ Some entry → IsSome (placed_of store number)
 placed-there store number entry found = by (placed_of store number) (sym (outlined_found store number) ∙ found)
   where

@@ -1,9 +1,9 @@
--- What is told of an entry, and an upload of it.
+-- What is reported about an entry, and an upload of it.
 use Rattle.std.proofs.Common.{◌≡◌, ℕ, ◌≤◌, false, [], length, Option, None, Some, refl, sym, ◌∙◌, ap, arith}
 use Rattle.file_store_model.specs.declared.info.Info.{Info}
 use Rattle.file_store.proofs.Names.{option_map, outlined, outlined_entry, Placed, PlacedStore, placed_of, placed_info, outlined_found, outlined_info, CallSign, longest_file, info_of, is_complete, IsStore, Entry, Holding, Store, complete, entry_of, octets_of, partial, found-fits, found-number, Told, StoreState, rest_in, store_in, HasEntry, Holds, Upload, entry_for, upload_from, upload_of}
 
--- of each number the same is told by the placed files as by what memory tells of the entries
+-- of each number the placed files report the same as what memory shows of the entries
 pub shown-info : (store : PlacedStore) (number : ℕ) → option_map placed_info (placed_of store number) ≡ option_map info_of (entry_of (outlined store) number)
 shown-info store number = by (placed_of store number) ∙ sym (ap (option_map info_of) (outlined_found store number))
   where
@@ -45,7 +45,7 @@ module _ (store : Store) (number : ℕ) (info : Info) (told : Told store number 
       (entry-same told.entry up.number up.caller up.length (partial (octets_of told.entry.holding)) (found-number number store.entries told.entry told.found ∙ same) (sym told-caller ∙ caller) (sym told-length ∙ long)
       (under-way told.entry.holding (sym told-complete ∙ partial_is)))
 
-  -- what is told of the upload's entry
+  -- what is reported about the upload's entry
   pub has-told : (self : StoreState) (up : Upload) → store_in self ≡ store → number ≡ up.number → HasEntry self up
       → (info.complete ≡ false) × (info.held ≡ up.held) × (info.caller ≡ up.caller) × (info.length ≡ up.length)
   has-told self up is same has =

@@ -30,7 +30,7 @@ drop-allowed held store number passes = passes_found store number is_partial pas
 
 -- ---- the step of a record
 
--- where its condition holds
+-- if its condition holds
 allowed-after : (held : Blocks) (store : PlacedStore) (command : PlacedCommand) → IsTrue (placed.is_allowed held store command) → placed_after held store command ≡ Some (after held store command)
 allowed-after held store command ok = rw ok refl
 
@@ -56,7 +56,7 @@ module _ (files : PlacedFiles) (number block count : ℕ) (front : length (waiti
   hold-sees held is put =
       ap (λ (n : ℕ). seen held (with_grown (store_of files) number block n)) (sym front) ∙ seen_put held (store_of files) number block octets grows-front is put
 
--- so many octets wait
+-- this many octets wait
 pub waits-length : (files : PlacedFiles) (number count : ℕ) (rest : List ℕ) → rest_of files number ≡ Some rest → length rest ≡ count → length (waiting_in files number) ≡ count
 waits-length files number count rest out all = ap (λ (o : Option (List ℕ)). length (octets_or_none o)) out ∙ all
 

@@ -1,9 +1,9 @@
--- Blocks that hold nothing but zeros: what is seen of the entries is what memory tells.
+-- Blocks that hold nothing but zeros: what is seen of the entries is what memory shows.
 use Rattle.std.proofs.Common.{◌≡◌, ℕ, zero, suc, ◌+◌, ◌*◌, List, [], ◌∷◌, ◌++◌, length, map, take, replicate, Option, None, Some, refl, ap, ap₂, ◌∙◌, arith}
 use Rattle.pfh_items.specs.Stamp.{StampValue, stamped}
 use Rattle.file_store.proofs.Names.{flat_map, replicate-append-replicate, take-replicate, ArePlaced, IsPlaced, IsPlacedFile, outlined, outlined_entry, Placed, PlacedStore, Seal, entry_with, holding_with, octets_in, seen, seen_entry, stamp_at, whole_block, Entry, complete, holding_of, store_from, Blocks, blocks_on, file_parts, option_map}
 
--- a disk that tells nothing holds zeros
+-- a disk of which nothing is observed holds zeros
 abbrev no_blocks : Blocks
 no_blocks = blocks_on None
 

@@ -1,4 +1,4 @@
--- The answers of the store's calls, and where each comes.
+-- The answers of the store's calls, and when each comes.
 use Rattle.std.specs.Prelude.{◌≡◌, ℕ, ◌+◌, ◌<◌, List, length, Bool, true, false, if◌then◌else◌, Option, None, Some}
 use Rattle.std.specs.Prelude.{Result, Ok, Err}
 use Rattle.disk_model.specs.declared.disk.Disk.{Ghosts}
@@ -24,8 +24,8 @@ use Rattle.file_store.specs.declared.refusals.AppendRefusal.TheVariants as appen
 use Rattle.file_store.specs.declared.refusals.SealRefusal.{SealRefusal}
 use Rattle.file_store.specs.declared.refusals.SealRefusal.TheVariants as seal_refusal
 
--- Where a refusal to begin a file of this length comes, in the order in which the causes are looked for. A fault of the
--- disk comes only where nothing else does.
+-- When a refusal to begin a file of this length comes, in the order in which the causes are looked for. A fault of the
+-- disk comes only if nothing else does.
 abbrev pub RefusesBegin : StoreState → ℕ → BeginRefusal → Type 0
 RefusesBegin self file_length begin_refusal.TooLong = Bars bar.TooLong (store_in self) file_length
 RefusesBegin self file_length begin_refusal.TooMany = Bars bar.TooMany (store_in self) file_length
@@ -39,17 +39,17 @@ RefusesBegin self file_length begin_refusal.Disk = MayBegin (store_in self) file
 abbrev pub IsEntry : StoreState → ℕ → Entry → Type 0
 IsEntry self number entry = entry_of (store_in self) number ≡ Some entry
 
--- an entry of this number stands, and is of this caller and this length
+-- there is an entry of this number, and it is of this caller and this length
 abbrev pub IsTheirs : StoreState → ℕ → CallSign → ℕ → Entry → Type 0
 IsTheirs self number caller file_length entry =
     IsEntry self number entry × (entry.caller ≡ caller) × (entry.length ≡ file_length)
 
--- an entry of this number stands, and isn't of this caller or not of this length
+-- there is an entry of this number, and it isn't of this caller or not of this length
 abbrev pub IsAnothers : StoreState → ℕ → CallSign → ℕ → Type 0
 IsAnothers self number caller file_length =
     (entry : Entry) × IsEntry self number entry × ¬ ((entry.caller ≡ caller) × (entry.length ≡ file_length))
 
--- Where a refusal to go on with an upload comes: exactly one answer is each store's.
+-- When a refusal to go on with an upload comes: exactly one answer is each store's.
 abbrev pub RefusesResume : StoreState → ℕ → CallSign → ℕ → ResumeRefusal → Type 0
 RefusesResume self number caller file_length resume_refusal.NoSuch = entry_of (store_in self) number ≡ None
 RefusesResume self number caller file_length resume_refusal.Bad = IsAnothers self number caller file_length
@@ -68,7 +68,7 @@ Resumes self number caller file_length entry =
 abbrev pub IsTooMuch : StoreState → Upload → List ℕ → Type 0
 IsTooMuch self up bytes = up.length < came self up + length bytes
 
--- Where a refusal to append these octets comes; the upload that comes back is this one.
+-- When a refusal to append these octets comes; the upload that comes back is this one.
 abbrev pub RefusesAppend : StoreState → Upload → List ℕ → AppendRefusal → Type 0
 RefusesAppend self up bytes (append_refusal.TooMuch back) = IsTooMuch self up bytes × (back ≡ up)
 RefusesAppend self up bytes append_refusal.Failed = ¬ IsTooMuch self up bytes × HasFailed self
@@ -82,14 +82,14 @@ IsShort self up = came self up < up.length
 abbrev pub MaySeal : StoreState → Upload → Type 0
 MaySeal self up = ¬ IsShort self up × ¬ HasFailed self
 
--- the code is that of the first fault of the upload's file, where it is known which octets are held of it
+-- the code is that of the first fault of the upload's file, if it is known which octets are held of it
 abbrev pub HasFault : {D : Type 0} → Ghosts D → StoreState → D → Upload → ℕ → Type 0
 HasFault g self disk up code =
     IsFaultCode code
     × (IsKnown g disk → fault_code (octets_come (store_on g self disk) self up) ≡ Some code)
 
--- Where a refusal to seal comes; the upload that comes back is this one, where a read failed with all of its octets
--- held; and the code is that of the file's first fault.
+-- When a refusal to seal comes; the upload that comes back is this one, if a read failed with all of its octets held;
+-- and the code is that of the file's first fault.
 abbrev pub RefusesSeal : {D : Type 0} → Ghosts D → StoreState → D → Upload → SealRefusal → Type 0
 RefusesSeal g self disk up (seal_refusal.Short back) = IsShort self up × (back ≡ up)
 RefusesSeal g self disk up (seal_refusal.Header code) = MaySeal self up × HasFault g self disk up code
@@ -147,8 +147,8 @@ seal_misses (Err seal_refusal.Disk) = false
 abbrev pub seal_missed : {T : Type 0} → Result T SealRefusal → ℕ
 seal_missed result = one_if (seal_misses result)
 
--- the commands of a call that seals the upload's file: those that wait become held, and where no read fails the file is
--- sealed, or dropped where it has a fault
+-- the commands of a call that seals the upload's file: those that wait become held, and if no read fails the file is
+-- sealed, or dropped if it has a fault
 abbrev pub seal_commands : {T : Type 0} → Result T SealRefusal → Store → StoreState → Upload → ℕ → List Command
 seal_commands result store self up moment =
     if seal_misses result then last_grow up.number (octets_or_none (rest_in self up.number))

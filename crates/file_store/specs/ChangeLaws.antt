@@ -14,7 +14,7 @@ use Rattle.file_store.specs.Changes.{LetsBy}
 use Rattle.file_store.specs.declared.change.EntriesChange.{EntriesChange}
 use Rattle.file_store.specs.declared.change.EntriesChange.TheVariants as change
 
--- a block stands in a file no more often than in all
+-- a block occurs in a file no more often than in all
 found_times :
     (block number : ℕ) (files : List Placed) (f : Placed) → find (has_number number) files ≡ Some f
     → times_at block f ≤ sum_by (times_at block) files

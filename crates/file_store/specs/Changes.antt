@@ -79,7 +79,7 @@ number_by (change.Hold number block count) files = number
 number_by (change.Seal number moment header) files = number
 number_by (change.Drop number) files = number
 
--- what waits of that file then, where an upload of it is out
+-- what waits of that file then, if an upload of it is out
 abbrev pub rest_by : EntriesChange → PlacedFiles → Option (List ℕ)
 rest_by (change.Begin caller file_length moment) files = None
 rest_by (change.Hold number block count) files = Some []
@@ -91,7 +91,7 @@ abbrev pub MakesOf : EntriesChange → PlacedFiles → PlacedFiles → Type 0
 MakesOf change files files_now =
     Becomes files files_now (next_by change files) (number_by change files) (rest_by change files)
 
--- its condition, but for what the blocks hold, and what else it needs is there
+-- its condition, except for what the blocks hold, and what else it needs is there
 abbrev pub HasFor : EntriesChange → EntriesState → Type 0
 HasFor (change.Begin caller file_length moment) entries =
     (held : Blocks) → MayBegin (seen held (store_of entries.files)) file_length

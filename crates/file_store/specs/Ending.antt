@@ -19,7 +19,7 @@ use Rattle.file_store.specs.Working.{DoesAmongReads}
 use Rattle.file_store.specs.declared.end.End.{End}
 use Rattle.file_store.specs.declared.end.End.TheVariants as end
 
--- The store stands on its disk, and each file of another number is as it was, with what waits of it. No file is new.
+-- The store is on its disk, and each file of another number is as it was, with what waits of it. No file is new.
 pub record LeavesOthers {D : Type 0} (g : Ghosts D) (old new : StoreState) (disk_now : D) (number : ℕ)
     : Type 0 where
   pub stands_on : StandsOn g new disk_now
@@ -61,22 +61,22 @@ end_misses (Ok (end.Dropped code)) = false
 end_misses (Ok end.Unread) = true
 end_misses (Err fault) = false
 
--- those octets become held that wait, and where no read failed the file is ended as one with this code of its first
--- fault, or with none
+-- those octets become held that wait, and if no read failed the file is ended as one with this code of its first fault,
+-- or with none
 abbrev pub end_commands : Result End DiskFault → List ℕ → ℕ → ℕ → Option ℕ → List Command
 end_commands result rest number moment code =
     if end_misses result then last_grow number rest
     else last_grow number rest ++ ending number moment code ∷ []
 
 -- what the answer says of the code with which the file is ended: a sealed one has none, a dropped one that which is
--- told
+-- reported
 abbrev pub EndsWith : End → Option ℕ → Type 0
 EndsWith end.Sealed code = code ≡ None
 EndsWith (end.Dropped fault) code = code ≡ Some fault
 EndsWith end.Unread code = ⊤
 
--- The first commands were all done, and then came reads, which failed or didn't. Where one failed that is all; where
--- none did the last commands were done then, or the disk failed in one of them.
+-- The first commands were all done, and then came reads, which failed or didn't. If one failed, that is all; if none
+-- did, the last commands were done then, or the disk failed in one of them.
 pub record ReadsBetween {D : Type 0} (g : Ghosts D) (failed : Type 0) (missed : Bool)
     (before now : AtDisk StoreState D) (first last : List Command) : Type 0 where
   pub then_is : AtDisk StoreState D
@@ -96,7 +96,7 @@ EndsInOrder g failed missed before now first last =
     ⊎ ReadsBetween g failed missed before now first last
 
 -- The commands that end the file of this number were done, with reads among them, or the disk failed. Which they are
--- the answer says, and the first fault of the octets that came decides, where it is known which these are. First those
+-- the answer says, and the first fault of the octets that came decides, if it is known which these are. First those
 -- octets become held that wait, then the file is read, then it is ended. Each other file is as it was.
 pub record EndsFile {D : Type 0} (g : Ghosts D) (result : Result End DiskFault) (old new : StoreState)
     (disk disk_now : D) (number moment : ℕ) : Type 0 where

@@ -15,14 +15,15 @@ KeepsUploads before now = (other : Upload) → Holds before other → Holds now 
 abbrev pub KeepsOthers : StoreState → StoreState → ℕ → Type 0
 KeepsOthers before now number = (other : Upload) → other.number ≢ number → Holds before other → Holds now other
 
--- Each entry now was one before, of the same caller; but for that of this number it is as it was.
+-- Each entry now was one before, of the same caller; except for that of this number it is as it was.
 abbrev pub ChangesEntry : Store → Store → ℕ → Type 0
 ChangesEntry before now number =
     (other : ℕ) (entry : Entry) → entry_of now other ≡ Some entry
     → (old : Entry) × (entry_of before other ≡ Some old) × (old.caller ≡ entry.caller) × (other ≢ number → old ≡ entry)
 
--- The next number and the number of blocks are as they were, and so is each entry but the one of this number, which
--- entry or none is there. That one, where it stands, stood before, and is what it was but for how far it has come.
+-- The next number and the number of blocks are as they were, and so is, for each other number, which entry is there, or
+-- that none is. The entry of this number, if it is there, was there before, and is what it was except for how far it
+-- has come.
 pub record OnlyChanges (before now : Store) (number : ℕ) : Type 0 where
   pub next : now.next ≡ before.next
   pub blocks : now.blocks ≡ before.blocks

@@ -22,7 +22,7 @@ use Rattle.file_store.specs.Upload.{Upload, entry_for, kept_file}
 abbrev pub IsStoreAfter : List ℕ → Store → ReadStore → List Recorded → Type 0
 IsStoreAfter octets files now records = IsPlacedAfter octets now records × (files ≡ seen (block_in octets) now.store)
 
--- octets stand for a store exactly where their records make it
+-- octets stand for a store exactly when their records make it
 abbrev pub StandingLaw : Type 0
 StandingLaw =
     (octets : List ℕ) (files : Store) → IsOctets octets
@@ -35,25 +35,26 @@ HoldsIn up image =
     (files : Store) × (begun : ℕ) × (held : List ℕ) × StandsFor image files
     × (entry_of files up.number ≡ Some (entry_for up begun (partial held))) × (up.held ≤ length held)
 
--- the same of each image of a disk that tells
+-- the same of each image of a disk whose content is observed
 abbrev pub HoldsInEach : {D : Type 0} → Ghosts D → Upload → D → Type 0
 HoldsInEach g up disk = IfSome (g.content disk) (λ _. (image : List ℕ) → images_now g disk image → HoldsIn up image)
 
--- in the store that each image of a disk that tells stands for, this entry stands
+-- in the store that each image of a disk whose content is observed stands for, there is this entry
 abbrev pub StandsInEach : {D : Type 0} → Ghosts D → ℕ → Entry → D → Type 0
 StandsInEach g number entry disk =
     IfSome (g.content disk) (λ _. (image : List ℕ) → images_now g disk image
     → (files : Store) × StandsFor image files × (entry_of files number ≡ Some entry))
 
--- in the store that each image of a disk that tells stands for, the upload's file is complete with these octets
+-- in the store that each image of a disk whose content is observed stands for, the upload's file is complete with these
+-- octets
 abbrev pub IsKeptInEach : {D : Type 0} → Ghosts D → Upload → List ℕ → ℕ → D → Type 0
 IsKeptInEach g up octets moment disk =
     IfSome (g.content disk) (λ _. (image : List ℕ) → images_now g disk image
     → (files : Store) × (begun : ℕ) × StandsFor image files
     × (entry_of files up.number ≡ Some (entry_for up begun (complete octets moment))))
 
--- An entry that is complete stays as it is through any commands, each of which the store before it allows: so it stands
--- in the store of each image that has the first of them, for whatever number.
+-- An entry that is complete stays as it is through any commands, each of which the store before it allows: so it is in
+-- the store of each image that has the first of them, for whatever number.
 abbrev pub ReceiptLaw : Type 0
 ReceiptLaw =
     (store : Store) (commands : List Command) (low high number : ℕ) (entry : Entry) (image : List ℕ)
@@ -61,7 +62,7 @@ ReceiptLaw =
     → MakesBetween low high store commands image
     → (files : Store) × StandsFor image files × (entry_of files number ≡ Some entry)
 
--- A store that stands on a disk stands on it still where nothing but the arming changed, or counts of faults.
+-- A store that is on a disk is on it still if nothing changed except the arming or counts of faults.
 abbrev pub ArmedLaw : {D : Type 0} → Ghosts D → Type 0
 ArmedLaw {D} g =
     (self : StoreState) (old new : D) → ChangesNothing g.content g.images g.moment g.images_since old new
@@ -73,8 +74,8 @@ IsKeptOn g old new disk disk_now up moment =
     holding_of_number (store_on g new disk_now) up.number
     ≡ Some (complete (kept_file (store_on g old disk) old up moment) moment)
 
--- A store that hasn't failed is on its disk what memory tells, but for the octets of its files, and keeps the rules of
--- a store; where it isn't known what its files hold, it is what memory tells.
+-- A store that hasn't failed is on its disk what memory shows, except for the octets of its files, and keeps the rules
+-- of a store; if it isn't known what its files hold, it is what memory shows.
 pub record ToldLaw {D : Type 0} (g : Ghosts D) (self : StoreState) (disk : D) : Type 0 where
   pub like : IsReady g self disk → IsKnown g disk → IsStoreLike (store_in self) (store_on g self disk)
   pub rules : IsReady g self disk → IsKnown g disk → IsStore (store_on g self disk)

@@ -15,7 +15,7 @@ pub record StaysReady {D : Type 0} (g : Ghosts D) (old new : StoreState) (disk_n
   pub same : new ≡ old
   pub ready : IsReady g new disk_now
 
--- No write and no sync was made: but for the count of failed reads the disk is as it was, and so is the store.
+-- No write and no sync was made: except for the count of failed reads the disk is as it was, and so is the store.
 pub record OnlyReads {D : Type 0} (g : Ghosts D) (failed : Type 0) (old new : StoreState) (disk disk_now : D) :
     Type 0 where
   pub reads : Reads g failed disk disk_now

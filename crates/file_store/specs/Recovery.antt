@@ -10,7 +10,7 @@ use Rattle.file_store.specs.State.{IsReady, StoreState, standing_of, store_form,
 use Rattle.file_journal.specs.declared.faults.StoreFault.{StoreFault}
 
 -- The store that a recovery gives is the one that the content stood for, and has the block number that the content had,
--- or this one where it had none. No upload is out, and the store is ready on the disk, which is quiet.
+-- or this one if it had none. No upload is out, and the store is ready on the disk, which is quiet.
 pub record IsRecovered {D : Type 0} (g : Ghosts D) (blocks : ℕ) (disk disk_now : D) (self : StoreState) : Type 0 where
   pub content : IfSome (g.content disk) (λ before. standing_of blocks before ≡ state (store_on g self disk_now))
   pub number : IfSome (g.content disk) (λ before. self.journal.blocks ≡ number_in blocks before)
@@ -18,11 +18,11 @@ pub record IsRecovered {D : Type 0} (g : Ghosts D) (blocks : ℕ) (disk disk_now
   pub ready : IsReady g self disk_now
   pub quiet : IsQuietNow g disk_now
 
--- each refusal comes exactly where the content stands for it
+-- each refusal comes exactly when the content stands for it
 abbrev pub RefusesExactly : {T : Type 0} → ℕ → List ℕ → Result T StoreFault → Type 0
 RefusesExactly blocks before result = restoring.RefusesExactly store_form blocks before result
 
--- but for a fault of the disk and want of memory, and where the content is told
+-- except for a fault of the disk and being out of memory, and if the content is observed
 abbrev pub RefusesRecovery : {T : Type 0} → ℕ → Option (List ℕ) → Result T StoreFault → Type 0
 RefusesRecovery blocks content result = restoring.RefusesRecovery store_form blocks content result
 
@@ -32,7 +32,7 @@ abbrev pub StandsAlike : ℕ → List ℕ → List ℕ → Type 0
 StandsAlike blocks before image = restoring.StandsAlike store_form blocks before image
 
 -- Since the end of the first sync a crash leaves what stands for the same as the content before, and a store formatted
--- to its end as it is; only where that sync failed, and the answer is that fault, a crash may leave what it might have
+-- to its end as it is; only if that sync failed, and the answer is that fault, a crash may leave what it might have
 -- left before.
 abbrev pub LeavesAlikeSinceSync : {D T : Type 0} → Ghosts D → ℕ → Result T StoreFault → D → D → Type 0
 LeavesAlikeSinceSync g blocks result disk disk_now =

@@ -14,7 +14,7 @@ use Rattle.file_store.specs.declared.refusals.SealRefusal.{SealRefusal}
 use Rattle.file_store.specs.declared.refusals.SealRefusal.TheVariants as seal_refusal
 
 -- what the answer says of the code with which the file is ended: a sealed one has none, a refused one that which is
--- told
+-- reported
 abbrev pub SealsWith : {T : Type 0} → Result T SealRefusal → Option ℕ → Type 0
 SealsWith (Ok receipt) code = code ≡ None
 SealsWith (Err (seal_refusal.Short back)) code = ⊤
@@ -23,16 +23,16 @@ SealsWith (Err (seal_refusal.Read back)) code = ⊤
 SealsWith (Err seal_refusal.Failed) code = ⊤
 SealsWith (Err seal_refusal.Disk) code = ⊤
 
--- the commands of the call where it ends the file as one with this code of its first fault, or with none
+-- the commands of the call if it ends the file as one with this code of its first fault, or with none
 abbrev pub commands_with : {T : Type 0} → Result T SealRefusal → StoreState → Upload → ℕ → Option ℕ → List Command
 commands_with result self up moment code =
     if seal_misses result then last_grow up.number (waiting self up)
     else last_grow up.number (waiting self up) ++ ending up.number moment code ∷ []
 
 -- The commands by which a call seals the upload's file, whether it is known what the files hold or not. Which they are
--- the answer says: it is sealed, or dropped with the code that is told, or as it was; where the disk failed one of the
--- first two was to come. Where the file's octets are known, the code is that of their first fault. First those octets
--- become held that wait; then the file is read; and where no read failed it is ended then.
+-- the answer says: it is sealed, or dropped with the code that is reported, or as it was; if the disk failed, one of
+-- the first two was to come. If the file's octets are known, the code is that of their first fault. First those octets
+-- become held that wait; then the file is read; and if no read failed, it is ended then.
 pub record SealsFile {D T : Type 0} (g : Ghosts D) (result : Result T SealRefusal) (old new : StoreState)
     (disk disk_now : D) (up : Upload) (moment : ℕ) : Type 0 where
   pub code : Option ℕ

@@ -19,7 +19,7 @@ use Rattle.file_journal.specs.Walk.{Stands}
 use Rattle.file_journal.specs.declared.layout.Layout.{Layout}
 use Rattle.file_journal.specs.declared.layout.Layout.TheVariants as layout
 
--- what a journal of the store keeps, its first eight octets, and where the parts of such a disk stand
+-- what a journal of the store keeps, its first eight octets, and where the parts of such a disk are
 abbrev pub store_form : Form Store Command
 store_form = placed_form
 
@@ -29,7 +29,7 @@ store_magic = placed_magic
 abbrev pub store_layout : Layout
 store_layout = layout.Halves
 
--- what the code has in memory: of each entry in which blocks its octets stand, and what waits of an upload that is out;
+-- what the code has in memory: of each entry in which blocks its octets are, and what waits of an upload that is out;
 -- and the journal of the commands
 pub record StoreState : Type 0 where
   pub files : PlacedFiles
@@ -39,25 +39,25 @@ pub record StoreState : Type 0 where
 abbrev pub state_from : PlacedFiles → Position → StoreState
 state_from files journal = record { files = files; journal = journal }
 
--- its entries, and in which blocks their octets stand
+-- its entries, and in which blocks their octets are
 abbrev pub placed_in : StoreState → PlacedStore
 placed_in self = store_of self.files
 
--- the store that it is as far as memory tells: which files there are, how long they are and how far they have come,
+-- the store that it is as far as memory shows: which files there are, how long they are and how far they have come,
 -- with zeros in place of their octets
 abbrev pub store_in : StoreState → Store
 store_in self = outlined (placed_in self)
 
--- the store that it is on this disk, with the octets that its blocks hold; they are the store's where the disk tells
--- its content
+-- the store that it is on this disk, with the octets that its blocks hold; they are the store's if its content is
+-- observed
 abbrev pub store_on : {D : Type 0} → Ghosts D → StoreState → D → Store
 store_on g self disk = seen (blocks_on (g.content disk)) (placed_in self)
 
--- what octets the store's files have on this disk is known: they stand in no block, or the disk tells its content
+-- what octets the store's files have on this disk is known: they are in no block, or the disk's content is observed
 abbrev pub IsKnown : {D : Type 0} → Ghosts D → D → Type 0
 IsKnown g disk = Knows store_form (g.content disk)
 
--- the octets that came of the entry of this number and aren't held yet, where an upload of it is out
+-- the octets that came of the entry of this number and aren't held yet, if an upload of it is out
 abbrev pub rest_in : StoreState → ℕ → Option (List ℕ)
 rest_in self number = rest_of self.files number
 
@@ -75,12 +75,12 @@ standing_of blocks octets = form.standing_of store_form blocks octets
 abbrev pub StandsFor : List ℕ → Store → Type 0
 StandsFor image store = form.StandsFor store_form store image
 
--- The journal is a store's, and holds the entries on the disk: it has failed; or the disk's content, where it is told,
+-- The journal is a store's, and holds the entries on the disk: it has failed; or the disk's content, if it is observed,
 -- stands for them, and a crash since this moment leaves nothing else.
 abbrev pub StandsOn : {D : Type 0} → Ghosts D → StoreState → D → Type 0
 StandsOn g self disk = StandsAt g store_form placed_steps self.journal (placed_in self) disk
 
--- The store hasn't failed, and stands on its disk.
+-- The store hasn't failed, and is on its disk.
 pub record IsReady {D : Type 0} (g : Ghosts D) (self : StoreState) (disk : D) : Type 0 where
   pub healthy : self.journal.failed ≡ false
   pub stands_on : StandsOn g self disk

@@ -96,13 +96,13 @@ upload_stamp up moment = record { number = up.number; by = up.caller; moment = m
 abbrev pub kept_file : Store → StoreState → Upload → ℕ → List ℕ
 kept_file store self up moment = stamped (upload_stamp up moment) (octets_come store self up)
 
--- the command that ends the file of this number, of which all octets came: Seal, or Drop where it has a fault
+-- the command that ends the file of this number, of which all octets came: Seal, or Drop if it has a fault
 abbrev pub ending : ℕ → ℕ → Option ℕ → Command
 ending number moment None = seal number moment
 ending number moment (Some code) = drop_entry number
 
--- the commands that end the file of this number: those that wait become held, and it is sealed, or dropped where it has
--- a fault
+-- the commands that end the file of this number: those that wait become held, and it is sealed, or dropped if it has a
+-- fault
 abbrev pub sealing_of : Store → StoreState → ℕ → ℕ → List Command
 sealing_of store self number moment =
     last_grow number (octets_or_none (rest_in self number))
@@ -112,11 +112,11 @@ sealing_of store self number moment =
 abbrev pub sealing : Store → StoreState → Upload → ℕ → List Command
 sealing store self up moment = sealing_of store self up.number moment
 
--- the upload once those that wait are held too, where all of its file's octets came
+-- the upload once those that wait are held too, if all of its file's octets came
 abbrev pub held_whole : Upload → Upload
 held_whole up = record up { held = up.length }
 
--- an upload of the entry of this number isn't out where this caller could go on with it
+-- an upload of the entry of this number isn't out if this caller could go on with it
 abbrev pub MayResume : StoreState → ℕ → CallSign → Type 0
 MayResume self number caller =
     (entry : Entry) (held : List ℕ) → entry_of (store_in self) number ≡ Some entry → entry.holding ≡ partial held
@@ -136,13 +136,13 @@ pub record FitsWaiting (self : StoreState) (number : ℕ) : Type 0 where
   pub out : rest_in self number ≡ Some rest
   pub fits : length held + length rest ≤ entry.length
 
--- The same, where fewer than 512 octets wait, and those that come fit the entry too.
+-- The same, if fewer than 512 octets wait, and those that come fit the entry too.
 pub record FitsBytes (self : StoreState) (number : ℕ) (bytes : List ℕ) : Type 0 where
   pub waits : FitsWaiting self number
   pub few : length waits.rest < 512
   pub fits : length waits.held + length (waits.rest ++ bytes) ≤ waits.entry.length
 
--- So many octets wait of a file that fits them; they fill a block, or are all that it lacks.
+-- This many octets wait of a file that fits them; they fill a block, or are all that it lacks.
 pub record FillsBlock (self : StoreState) (number count : ℕ) : Type 0 where
   pub waits : FitsWaiting self number
   pub some : 1 ≤ count

@@ -28,8 +28,8 @@ pub(crate) enum EntriesChange {
         length: u32,
         moment: Moment,
     },
-    /// The octets that wait of the upload of this number, so many, 1 to 512, become held, in the lowest block that no
-    /// file has.
+    /// The octets that wait of the upload of this number, `count` of them, 1 to 512, become held, in the lowest block
+    /// that no file has.
     Hold {
         number: FileNumber,
         block: u32,

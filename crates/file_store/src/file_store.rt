@@ -58,8 +58,8 @@ use std::marker::Model;
 /// The octets in a block.
 const BLOCK: usize = 512;
 
-/// Which files there are, and where their octets and their commands stand on a disk, which it doesn't hold. Contracts
-/// see it as a `StoreState`.
+/// Which files there are, and where their octets and their commands are on a disk, which it doesn't hold. Contracts see
+/// it as a `StoreState`.
 #[derive(Drop)]
 pub struct FileStore {
     kept: Kept<Entries>,
@@ -103,7 +103,8 @@ impl FileStore {
         ensures octets { OnOk result
             (TakesStep D.Disk disk.old disk.new (IsAfterRecovery store_magic store_layout limits.blocks)) }
 
-        // But for a fault of the disk and want of memory, each refusal comes exactly where the content stands for it.
+        // Except for a fault of the disk and being out of memory, each refusal comes exactly when the content stands
+        // for it.
         ensures refuses { RefusesRecovery limits.blocks (D.content disk.old) result }
         ensures untouched { (found : List ℕ) → IsErrOf result (StoreFault.NotAStore found)
             → D.content disk.new ≡ D.content disk.old }
@@ -111,20 +112,20 @@ impl FileStore {
             → D.content disk.new ≡ D.content disk.old }
         ensures runs { Runs D.Disk (IsErrOf result StoreFault.Disk) disk.old disk.new }
 
-        // Memory is wanted only where the content is that of a store, or of none yet.
+        // `OutOfMemory` comes only if the content is that of a store, or of none yet.
         ensures memory { IsErrOf result StoreFault.OutOfMemory → IfSome (D.content disk.old)
             (λ before. HasGoodHeader (journal_of store_magic store_layout before)) }
 
         // A crash since the start leaves what it might have left before, or what stands for the same, and a store
-        // formatted to its end as it is; since the end of the first sync the latter, but where that sync failed.
+        // formatted to its end as it is; since the end of the first sync the latter, unless that sync failed.
         ensures since_start { Leaves D.Disk disk.old disk.new (StandsAlike limits.blocks) }
         ensures since_sync { LeavesAlikeSinceSync D.Disk limits.blocks result disk.old disk.new }
 
-        // Nothing is written behind the store whose block number the disk has, or gets.
+        // Nothing is written past the end of the store whose block number the disk has, or gets.
         ensures within { RecoversInHalves D.Disk store_layout limits.blocks disk.old disk.new }
     {
         let kept = Kept::recover(alloc, disk, limits.blocks)?;
-        // Behind the recovery, so that a crash finds the disk synced where there is no memory for it too.
+        // After the recovery, so that a crash finds the disk synced also if there is no memory for it.
         let header = header_buffer(alloc)?;
         Ok(FileStore { kept, header })
     }
@@ -142,7 +143,7 @@ impl FileStore {
     ) -> Result<OpenUpload, BeginRefusal>
         requires { StandsOn D.Disk self.old disk.old }
 
-        // Each refusal comes exactly where its cause holds; a fault of the disk only where it counts one.
+        // Each refusal comes exactly when its cause holds; a fault of the disk only if it counts one.
         ensures refused { IfErr result (RefusesBegin self.old length) }
         ensures can { IfOk result (λ _. RefusesBegin self.old length BeginRefusal.Disk) }
         ensures untouched { IsTrue (begin_reaches result) ⊎ ((self.new ≡ self.old) × (disk.new ≡ disk.old)) }
@@ -161,7 +162,7 @@ impl FileStore {
         ensures rests { KeepsRests self.old.files self.new.files (store_in self.old).next }
         ensures kept { KeepsComplete (store_in self.old) (store_in self.new) }
 
-        // What memory tells of the entries, whether it is known what the files hold or not.
+        // What memory shows of the entries, whether it is known what the files hold or not.
         ensures made { OnOk result (store_in self.new
             ≡ after (store_in self.old) (begin (store_in self.old).next caller length moment)) }
         ensures unmade { IsErr result → store_in self.new ≡ store_in self.old }
@@ -179,7 +180,7 @@ impl FileStore {
             moment,
         };
         // A crash before the record's gate is synced leaves the store without the file, and its number is given again:
-        // the caller hasn't been told of it.
+        // the caller doesn't know of it yet.
         put_change(&mut self.kept, disk, &begin)?;
         self.kept.ledger.take_out(number);
         Ok(OpenUpload::new(number, caller, length, 0))
@@ -224,9 +225,9 @@ impl FileStore {
     /// Adds octets to an upload. Each whole 512 of those that wait then become held; the others, fewer than 512, wait
     /// on.
     ///
-    /// `TooMuch`, where more octets would come than the file has, is looked at first, then `Failed`. Takes no memory.
-    /// The work is that of finding the entry and of the octets that come, however many are held; the disk takes three
-    /// writes and three syncs for each 512. Where its records fill their half, they are written anew into the other one
+    /// `TooMuch`, if more octets would come than the file has, is looked at first, then `Failed`. Takes no memory. The
+    /// work is that of finding the entry and of the octets that come, however many are held; the disk takes three
+    /// writes and three syncs for each 512. If its records fill their half, they are written again into the other one
     /// first.
     pub fn append<D: Disk>(
         &mut self,
@@ -253,7 +254,7 @@ impl FileStore {
         ensures holds { IfOk result (λ next. Holds self.new next) }
         ensures every_image { IfOk result (λ next. HoldsInEach D.Disk next disk.new) }
 
-        // What memory tells of the entries, whether it is known what the files hold or not.
+        // What memory shows of the entries, whether it is known what the files hold or not.
         ensures memory { OnOk result (store_in self.new
             ≡ after_all (store_in self.old) (outlined_all (appending self.old up bytes.entry.now))) }
 
@@ -282,8 +283,8 @@ impl FileStore {
     /// number, its caller and this moment. The entry of one with a fault is dropped, and the answer is the code of its
     /// first fault. Takes no memory.
     ///
-    /// `Short`, where fewer octets came than the file has, is looked at first, then `Failed`. `Read`: a read failed,
-    /// and the file stays under way.
+    /// `Short`, if fewer octets came than the file has, is looked at first, then `Failed`. `Read`: a read failed, and
+    /// the file stays under way.
     pub fn seal<D: Disk>(
         &mut self,
         disk: &mut D,
@@ -302,11 +303,11 @@ impl FileStore {
             → ChangesRest self.old.files self.new.files up.number None × (self.new.journal ≡ self.old.journal) }
 
         // The commands are on the disk before the answer; a crash at any moment leaves the first of them. Which they
-        // are the octets of the file decide, where they are known.
+        // are is decided by the octets of the file, if they are known.
         ensures does { IsTrue (seal_reaches result) → IsKnown D.Disk disk.old
             → DoesAmongReads D.Disk (IsErrOf result SealRefusal.Disk) (seal_missed result) self.old self.new
             disk.old disk.new (seal_commands result (store_on D.Disk self.old disk.old) self.old up moment) }
-        // The same where they aren't known, by the answer; and in which order the calls of the disk come.
+        // The same if they aren't known, by the answer; and in which order the calls of the disk come.
         ensures ends { IsTrue (seal_reaches result)
             → SealsFile D.Disk result self.old self.new disk.old disk.new up moment }
         ensures puts { PutsAmongReads D.Disk (IsErrOf result SealRefusal.Disk) disk.old disk.new }
@@ -314,7 +315,7 @@ impl FileStore {
         ensures stops { IsErrOf result SealRefusal.Disk → self.new.journal.failed ≡ true }
         ensures goes_on { ¬ IsErrOf result SealRefusal.Disk → self.new.journal.failed ≡ self.old.journal.failed }
 
-        // A file without fault is complete: the octets that came, stamped. In every image it stands so.
+        // A file without fault is complete: the octets that came, stamped. In every image it is so.
         ensures good { OnOk result (IsKnown D.Disk disk.old
             → fault_code (octets_come (store_on D.Disk self.old disk.old) self.old up) ≡ None) }
         ensures receipt { IfOk result (λ receipt. receipt ≡ up.number) }
@@ -402,12 +403,12 @@ impl FileStore {
         self.kept.ledger.is_out(number)
     }
 
-    /// What the store tells of the entry of this number, or `None` exactly where there is none. Takes no memory.
+    /// What the store reports about the entry of this number, or `None` exactly when there is none. Takes no memory.
     pub fn info(&self, number: FileNumber) -> Option<Info>
         ensures info { result ≡ option_map info_of (entry_of (store_in self.now) number) }
         ensures rules { IsStore (store_in self.now) }
     {
-        // It tells contracts that the entries keep their rules.
+        // Shows contracts that the entries keep their rules.
         self.kept.ledger.next();
         self.kept.ledger.info(number)
     }
@@ -419,24 +420,24 @@ impl FileStore {
         self.kept.ledger.next()
     }
 
-    /// Whether a call answered `Disk`: then the store is to be recovered anew. Takes no memory.
+    /// Whether a call answered `Disk`: then the store is to be recovered again. Takes no memory.
     pub fn failed(&self) -> bool
         ensures { result ≡ self.now.journal.failed }
     {
         self.kept.failed()
     }
 
-    /// The least number above this one of a complete file, or `None` exactly where there is none. Takes no memory.
+    /// The least number above this one of a complete file, or `None` exactly when there is none. Takes no memory.
     pub fn numbers(&self, after: FileNumber) -> Option<FileNumber>
         ensures { IsNextComplete (store_in self.now) after result }
     {
         self.kept.ledger.next_complete(after)
     }
 
-    /// Fills the room with the octets from this place on of a complete file; they have to be there. Behind the header
-    /// it reads these octets, with one read for each block; in the header those before them too. The fault comes only
-    /// where a read of the disk failed, and leaves the store and the disk's content as they were, and the room open.
-    /// Takes no memory.
+    /// Fills the room with the octets from this place on of a complete file; they have to be there. After the header it
+    /// reads these octets, with one read for each block; in the header those before them too. The fault comes only if a
+    /// read of the disk failed, and leaves the store and the disk's content as they were, and the room open. Takes no
+    /// memory.
     pub fn read_at<D: Disk>(
         &mut self,
         disk: &mut D,
@@ -458,7 +459,7 @@ impl FileStore {
     /// reads. The header is read, and never the body. Takes no memory.
     ///
     /// `Disk`: a read of the disk failed. `NoHeader`: what the file's blocks hold is no header any more, which never
-    /// comes where it is known what they hold. Both leave the store and the disk's content as they were.
+    /// comes if it is known what they hold. Both leave the store and the disk's content as they were.
     ///
     /// [`header_in`]: crate::header_in
     pub fn header<D: Disk>(
@@ -475,8 +476,8 @@ impl FileStore {
         ensures short { IfOk result (λ octets. length octets.now ≤ 65535) }
         ensures there { IsErrOf result HeaderFault.NoHeader → ¬ IsKnown D.Disk disk.old }
 
-        // It makes no write and no sync: but for the count of failed reads the disk is as it was. So is the store, once
-        // the header is given back.
+        // It makes no write and no sync: except for the count of failed reads the disk is as it was. So is the store,
+        // once the header is given back.
         ensures reads { Reads D.Disk (IsErrOf result HeaderFault.Disk) disk.old disk.new }
         ensures ready { IsReady D.Disk self.old disk.new }
         ensures* store { sem 𝓛 (Rests the_row self.entry (λ new. new ≡ self.old)) }
@@ -501,8 +502,8 @@ impl FileStore {
         (up.length() - up.held()) as usize - waiting
     }
 
-    /// Octets come of the upload of this number. With those that wait they have so many whole 512, which become held,
-    /// one Grow each; the others wait on.
+    /// Octets come of the upload of this number. With those that wait they make `blocks` whole blocks of 512, which
+    /// become held, one Grow each; the others wait on.
     fn hold_blocks<D: Disk>(
         &mut self,
         disk: &mut D,
@@ -527,7 +528,7 @@ impl FileStore {
     }
 
     /// Octets come of the upload of this number. With those that wait they fill a block, which becomes held, by one
-    /// Grow; those behind it are given back.
+    /// Grow; those after it are given back.
     fn hold_block<'a, D: Disk>(
         &mut self,
         disk: &mut D,
@@ -550,7 +551,7 @@ impl FileStore {
         Ok(later)
     }
 
-    /// The octets that wait of the upload of this number, so many, become held, by one Grow.
+    /// The octets that wait of the upload of this number, `count` of them, become held, by one Grow.
     fn hold<D: Disk>(
         &mut self,
         disk: &mut D,
@@ -575,7 +576,7 @@ impl FileStore {
     }
 
     /// Ends the file of this number, of which all octets came: those that wait become held, and it is sealed, or
-    /// dropped where it has a fault; or it stays under way and out, where a read failed.
+    /// dropped if it has a fault; or it stays under way and out, if a read failed.
     fn end_file<D: Disk>(
         &mut self,
         disk: &mut D,
@@ -600,8 +601,8 @@ impl FileStore {
         }
     }
 
-    /// The octets that wait of the upload of this number, of whose file all came, become held, by one Grow where there
-    /// are any.
+    /// The octets that wait of the upload of this number, of whose file all came, become held, by one Grow if there are
+    /// any.
     fn hold_rest<D: Disk>(&mut self, disk: &mut D, number: FileNumber) -> Result<(), DiskFault>
         requires ready { IsReady D.Disk self.old disk.old }
         requires whole { IsWholeWaiting self.old number }
@@ -657,7 +658,7 @@ impl FileStore {
     }
 }
 
-/// Whether an entry of which this is told is of this caller and this length.
+/// Whether an entry about which this is reported is of this caller and this length.
 fn is_theirs(info: &Info, caller: Call, length: u32) -> bool
     ensures { IsTrue result ↔ ((info.now.caller ≡ caller) × (info.now.length ≡ length)) }
 {

@@ -22,7 +22,7 @@ pub(crate) fn header_buffer(alloc: Global) -> Result<Vec<u8>, OutOfMemory>
     Ok(header)
 }
 
-/// Whether these octets are a header and nothing else, in which each mandatory item stands once and has its length.
+/// Whether these octets are a header and nothing else, in which each mandatory item occurs once and has its length.
 /// Takes no memory.
 pub(crate) fn is_header(octets: &[u8]) -> bool
     ensures { IsTrue result ↔ IsWholeHeader octets.now }
@@ -33,7 +33,7 @@ pub(crate) fn is_header(octets: &[u8]) -> bool
     }
 }
 
-/// Whether each mandatory item stands once in a header, and has its length.
+/// Whether each mandatory item occurs once in a header, and has its length.
 fn has_each_once(header: &Header<'_>) -> bool
     ensures { result ≡ list_all (λ rule. is_one_of_len rule.len (items_with rule.id header.now.items)) mandatory_items }
 {

@@ -26,16 +26,16 @@ pub fn state_law(store: &FileStore)
     let _info = store.info(store.next_number());
 }
 
-/// What a store is on a disk where it is known what its files hold: what memory tells of it, with the octets of its
-/// files. Takes no memory.
+/// What a store is on a disk if it is known what its files hold: what memory shows of it, with the octets of its files.
+/// Takes no memory.
 pub fn told_law<D: Disk>(store: &FileStore, disk: &D)
     ensures { ToldLaw D.Disk store.now disk.now }
 {
     state_law(store);
 }
 
-/// What an upload that is out knows: in every image of a disk on which the store stands, its entry is under way and
-/// holds at least the octets that the upload says. The store hasn't failed. Takes no memory.
+/// What an upload that is out knows: in every image of a disk on which the store is, its entry is under way and holds
+/// at least the octets that the upload says. The store hasn't failed. Takes no memory.
 pub fn token_law<D: Disk>(store: &FileStore, up: &OpenUpload, disk: &D)
     requires ready { IsReady D.Disk store.now disk.now }
     requires holds { Holds store.now up.now }
@@ -44,8 +44,8 @@ pub fn token_law<D: Disk>(store: &FileStore, up: &OpenUpload, disk: &D)
     store.read_law();
 }
 
-/// What stays of a file that is complete: in every image of a disk on which the store stands, the entry stands as it
-/// is. The store hasn't failed; each of its calls keeps each complete entry. Takes no memory.
+/// What stays of a file that is complete: in every image of a disk on which the store is, the entry is there as it is.
+/// The store hasn't failed; each of its calls keeps each complete entry. Takes no memory.
 pub fn complete_law<D: Disk>(store: &FileStore, disk: &D)
     requires { IsReady D.Disk store.now disk.now }
     ensures { (number : ℕ) (entry : Entry) → entry_of (store_on D.Disk store.now disk.now) number ≡ Some entry
@@ -54,14 +54,14 @@ pub fn complete_law<D: Disk>(store: &FileStore, disk: &D)
     store.read_law();
 }
 
-/// What a receipt is good for: its file's entry stands as it is in every image that later commands of the store leave,
-/// at every moment of them and whether the disk failed in one or not.
+/// What a receipt is good for: its file's entry is there as it is in every image that later commands of the store
+/// leave, at every moment of them and whether the disk failed in one or not.
 pub fn receipt_law()
     ensures { ReceiptLaw }
 {}
 
-/// What arming a disk leaves: the store stands on it as before. So it is of whatever leaves the disk's content, its
-/// moment, and what a crash may leave or might have left.
+/// What arming a disk leaves: the store is on it as before. So it is of whatever leaves the disk's content, its moment,
+/// and what a crash may leave or might have left.
 pub fn armed_law<D: Disk>()
     ensures { ArmedLaw D.Disk }
 {}

@@ -30,7 +30,7 @@ impl Model for OpenUpload {
 impl OpenUpload {
     ghost use Rattle.file_store.specs.Upload.{held_whole, upload_from};
 
-    /// The upload of this entry, of which so many octets are held.
+    /// The upload of this entry, of which this many octets are held.
     pub(crate) fn new(number: FileNumber, caller: Call, file_length: u32, held: u32) -> OpenUpload
         requires held { held ≤ file_length }
         requires file { file_length ≤ longest_file }
@@ -73,7 +73,7 @@ impl OpenUpload {
         self.held
     }
 
-    /// The upload after so many further octets became held.
+    /// The upload after `more` further octets became held.
     pub(crate) fn moved_on(self, more: usize) -> OpenUpload
         requires { self.held + more ≤ self.length }
         ensures { result ≡ record self { held = self.held + more } }

@@ -13,8 +13,8 @@ use file_store_blocks::Entries;
 
 /// Makes a change of the entries that may be made, of a store that hasn't failed. After `Ok` a crash leaves the store
 /// after its command, until then and after a fault that or the one before it. Two writes and two syncs, and one of each
-/// more where octets are put in a block first; before them the records are written anew where their half has no room
-/// for one more. Takes no memory.
+/// more if octets are put in a block first; before them the records are written again if their half has no room for one
+/// more. Takes no memory.
 pub(crate) fn put_change<D: Disk>(
     kept: &mut Kept<Entries>,
     disk: &mut D,

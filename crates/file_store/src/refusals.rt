@@ -9,13 +9,13 @@ use disk_model::DiskFault;
 use file_store_model::BeginBar;
 use thiserror::Error;
 
-/// Why a file was not begun. But for `Disk` neither the store nor its disk was touched.
+/// Why a file was not begun. Except for `Disk`, neither the store nor its disk was touched.
 #[derive(Clone, Copy, Debug, PartialEq, Eq, Error)]
 pub enum BeginRefusal {
     /// The length is above 4,194,304 octets.
     #[error("the file is longer than 4194304 octets")]
     TooLong,
-    /// 1,024 entries stand.
+    /// There are 1,024 entries.
     #[error("the store has 1024 entries")]
     TooMany,
     /// The next number is 4,294,967,295, and so no number is left.
@@ -29,7 +29,7 @@ pub enum BeginRefusal {
         /// How many blocks are free.
         free: u32,
     },
-    /// This store answered `Disk` before; it is to be recovered anew.
+    /// This store answered `Disk` before; it is to be recovered again.
     #[error("the store failed before")]
     Failed,
     /// A write or a sync of the disk failed, and its count of write faults rose. The file may be begun or not.
@@ -61,7 +61,7 @@ impl From<DiskFault> for BeginRefusal {
 /// Why an upload was not gone on with. The store is as it was.
 #[derive(Clone, Copy, Debug, PartialEq, Eq, Error)]
 pub enum ResumeRefusal {
-    /// No entry of the number stands.
+    /// There is no entry of the number.
     #[error("no such file")]
     NoSuch,
     /// The entry is another caller's, or the file has another length.
@@ -70,7 +70,7 @@ pub enum ResumeRefusal {
     /// The file is complete.
     #[error("the file is complete")]
     Complete,
-    /// This store answered `Disk` before; it is to be recovered anew.
+    /// This store answered `Disk` before; it is to be recovered again.
     #[error("the store failed before")]
     Failed,
 }
@@ -79,7 +79,7 @@ pub enum ResumeRefusal {
 pub enum AppendRefusal {
     /// More octets would come than the file has. None of them is taken; neither the store nor its disk was touched.
     TooMuch(OpenUpload),
-    /// This store answered `Disk` before; it is to be recovered anew. The upload is spent.
+    /// This store answered `Disk` before; it is to be recovered again. The upload is spent.
     Failed,
     /// A write or a sync of the disk failed, and its count of write faults rose. Some of the octets may be held. The
     /// upload is spent.
@@ -99,7 +99,7 @@ pub enum SealRefusal {
     /// A read of the disk failed, and its count of read faults rose. All octets of the file are held, and it is under
     /// way.
     Read(OpenUpload),
-    /// This store answered `Disk` before; it is to be recovered anew. The upload is spent.
+    /// This store answered `Disk` before; it is to be recovered again. The upload is spent.
     Failed,
     /// A write or a sync of the disk failed, and its count of write faults rose. The file may be complete, dropped or
     /// under way. The upload is spent.

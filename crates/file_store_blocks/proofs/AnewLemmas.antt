@@ -1,4 +1,4 @@
--- The file at a place, and the commands that make it anew.
+-- The file at a place, and the commands that rebuild it.
 use Rattle.std.proofs.Common.{◌≡◌, ℕ, zero, suc, ◌+◌, ◌-◌, ◌*◌, ◌≤◌, ◌<◌, min, List, [], ◌∷◌, ◌++◌, length, drop, get_or, Option, None, Some, refl, ap, sym, ◌∙◌, subst, arith}
 use Rattle.file_store_blocks.proofs.Names.{IfSome, slice_get, option_and_then, option_map, length-map, slice_get-get_or, IsAt, command_in, commands_in, commands_of, grows_in, left_from, left_in, seals_in, written, ArePlaced, IsPlaced, IsPlacedFile, Placed, PlacedStore, Seal, run_of, runs_of, with_next, PlacedCommand, begin, grow, seal, AreKept, PlacedFile, PlacedFiles, entries_of, files_from, in_runs, placed_info, store_of, with_run, record_of_placed, next_placed, Run, new_run, Info}
 use Rattle.file_store_blocks.proofs.ChangeLemmas.{own_runs}
@@ -61,7 +61,7 @@ module _ (runs : List Run) (items : List PlacedFile) (next blocks : ℕ) (kept :
       ap (λ (rs : List Run). get_or rs at (new_run 0)) (own_runs runs items next blocks kept now view)
       ∙ run_slice (store_of now).entries at f (new_run 0) is
 
--- a file stands at each place before the end
+-- a file is at each place before the end
 pub entry_there : (files : List Placed) (at : ℕ) → at < length files → (f : Placed) × (slice_get files at ≡ Some f)
 entry_there [] at there = absurd (omega (arith, there))
 entry_there (f ∷ fs) zero there = (f, refl)
@@ -70,7 +70,7 @@ entry_there (f ∷ fs) (suc at) there = entry_there fs at (omega (arith, there))
 pub some_same : {A : Type 0} {x y : A} → Some x ≡ Some y → x ≡ y
 some_same is = cc
 
--- what holds of the file at a place, if there is one
+-- what is true of the file at a place, if there is one
 pub says_at : (store : PlacedStore) (at : ℕ) (P : Placed → Type 0) → ((f : Placed) → slice_get store.entries at ≡ Some f → P f) → IsAt store at P
 says_at store at P says = by (slice_get store.entries at) refl
   where
@@ -94,7 +94,7 @@ grow_at number count (b ∷ bs) later (suc place) block is =
     grow_at number (count - 512) bs later place block is
     ∙ ap (λ (n : ℕ). Some (grow number block (min 512 n))) (omega arith)
 
--- what stands behind them
+-- what comes after them
 pub behind_grows : (number count : ℕ) (blocks : List ℕ) (later : List PlacedCommand) (more : ℕ)
     → slice_get (grows_in number count blocks ++ later) (length blocks + more) ≡ slice_get later more
 behind_grows number count [] later more = let same : 0 + more ≡ more = omega arith in ap (λ (k : ℕ). slice_get later k) same
@@ -124,7 +124,7 @@ slice_is limit [] k f are is = absurd (cc)
 slice_is limit (x ∷ xs) zero f are is = let same : x ≡ f = cc in subst (IsPlacedFile limit) same are.0
 slice_is limit (x ∷ xs) (suc k) f are is = slice_is limit xs k f are.1 is
 
--- the file of which this is told
+-- the file about which this is reported
 pub info_there : (o : Option Placed) (result : Option Info) (info : Info) → result ≡ option_map placed_info o → result ≡ Some info → (f : Placed) × (o ≡ Some f) × (info ≡ placed_info f)
 info_there None result info told is = absurd (cc (sym is ∙ told))
 info_there (Some f) result info told is = (f, refl, some_same (sym is ∙ told))
@@ -149,7 +149,7 @@ module _ (store : PlacedStore) (is : IsPlaced store) (at : ℕ) (f : Placed) (th
   first_command = command_of 0
 
   module _ (place : ℕ) where
-    -- the command behind the Begin
+    -- the command after the Begin
     command_behind : command_in store at (suc place) ≡ slice_get (grows_in f.number f.held f.blocks ++ seals_in f.number f.seal) place
     command_behind = command_of (suc place)
 
@@ -199,7 +199,7 @@ module _ (store : PlacedStore) (at part : ℕ) where
           ∙ ap (λ (cs : List PlacedCommand). written (cs ++ commands_in (drop (suc at) store.entries))) (drop_at (commands_of f) part command here)
           ∙ sym (ap (λ (fs : List Placed). record_of_placed command ∷ left_in fs (suc part)) files)
 
-  -- where none is there, those of the next file are left
+  -- if none is there, those of the next file are left
   left_next : command_in store at part ≡ None → left_from store (suc at) part ≡ left_from store (suc (suc at)) 0
   left_next is = by (slice_get store.entries at) refl is
     where
@@ -217,7 +217,7 @@ module _ (store : PlacedStore) (at part : ℕ) where
           ∙ ap (λ (cs : List PlacedCommand). written (cs ++ commands_in (drop (suc at) store.entries))) (drop_past (commands_of f) part here)
           ∙ all_in (drop (suc at) store.entries)
 
--- where no first command is there, no file is
+-- if no first command is there, no file is
 left_none : (store : PlacedStore) (at : ℕ) → command_in store at 0 ≡ None → left_from store (suc at) 0 ≡ []
 left_none store at is = by (slice_get store.entries at) refl is
   where

@@ -19,7 +19,7 @@ refused_is content before now command rules refused same =
       rules = subst (λ (s : EntriesState). IsReadStore (read_of s)) (sym same) rules;
     }
 
--- entries keep their rules where what they became does
+-- entries keep their rules if what they became does
 rules_are : (now : EntriesState) (store : PlacedStore) (least : ℕ) → store_of now.files ≡ store → now.least ≡ least → IsPlaced (with_next least store) → least ≤ store.next → IsReadStore (read_of now)
 rules_are now store least store_is least_is rules le =
     record {
@@ -130,11 +130,11 @@ module _ (before now : EntriesState) (rules : IsReadStore (read_of before)) wher
 
 -- ---- what a record says
 
--- a store that is read, behind its first record
+-- a store that is read, after its first record
 abbrev some_read : PlacedStore → ℕ → Option ReadStore
 some_read store least = Some (record { store = store; least = least; first = false })
 
--- nothing changes but that a record came
+-- nothing changes except that a record came
 abbrev passed_first : EntriesState → EntriesState
 passed_first now = record now { first = false }
 
@@ -187,9 +187,9 @@ next_record content false before made now number rules takes passes stays =
       rules = subst (λ (s : EntriesState). IsReadStore (read_of s)) (sym same) rules;
     }
 
--- ---- what is told of a file
+-- ---- what is reported about a file
 
--- the file of which this is told
+-- the file about which this is reported
 pub record Told (store : PlacedStore) (number : ℕ) (info : Info) : Type 0 where
   pub file : Placed
   pub found : placed_of store number ≡ Some file

@@ -1,4 +1,4 @@
--- The sum that a header has with its stamp, by what a stamper gives that puts zeros in the place of the sum.
+-- The sum that a header has with its stamp, by what a stamper gives that puts zeros in place of the sum.
 use Rattle.std.proofs.Common.{◌≡◌, ℕ, ◌+◌, ◌-◌, ◌%◌, ◌≤◌, ◌==◌, ◌&&◌, List, [], ◌∷◌, ◌++◌, length, map, take, drop, Bool, true, false, cond, sum, Option, Some, None, refl, sym, ap, ◌∙◌, subst, arith}
 use Rattle.px_base.specs.Numbers.{le16_octets, le32_octets, sum16}
 use Rattle.pfh_items.specs.declared.fault.FileFault.{FileFault}
@@ -17,7 +17,7 @@ use Rattle.file_store_blocks.proofs.Names.{AllByRecursion, unwrap_or, eq-eqb, fa
 abbrev HasLen : ℕ → ℕ → ItemValue → Type 0
 HasLen id len item = (item.id == id) ≡ true → length item.content ≡ len
 
--- what holds of the items of an id
+-- what is true of the items of an id
 each_of : (id : ℕ) (P : ItemValue → Type 0) (items : List ItemValue) → AllByRecursion P (items_with id items)
     → AllByRecursion (λ item. (item.id == id) ≡ true → P item) items
 each_of id P [] all = tt
@@ -98,13 +98,13 @@ module _ (stamp : StampValue) where
 -- ---- the octets that are given
 
 module _ (stamp : StampValue) (sum : ℕ) (items : List ItemValue) (body : List ℕ) (are : AreItems items) where
-  -- where the items are read of a header with a body
+  -- if the items are read of a header with a body
   walk_whole : (fed : List ℕ) → fed ≡ header_text items ++ body
       → items_from 0 (drop 2 fed) ≡ record { items = items; stop = EndItem (0 + length (items_text items)) }
   walk_whole fed is =
       ap (λ (l : List ℕ). items_from 0 (drop 2 l)) (is ∙ after_start items body) ∙ items_from-whole items 0 body are
 
-  -- these octets are the front of no whole header
+  -- these octets are a prefix of no whole header
   not_cut :
       (cut given_cut fed given : List ℕ) → PassesItems stamp sum cut given_cut fed given → starts_whole cut ≡ false
       → fed ≡ header_text items ++ body → ⊥
@@ -143,7 +143,7 @@ module _ (stamp : StampValue) (sum : ℕ) (items : List ItemValue) (body : List 
       ∙ ap (λ (l : List ℕ). header_start ++ (items_text (map (given_item stamp sum) items) ++ l)) ends
       ∙ sym (after_start (map (given_item stamp sum) items) body)
 
-  -- what is given in the place of a header with a body
+  -- what is given in place of a header with a body
   pub given_whole :
       (stage : Stage) (fed given : List ℕ) → StandsAt stamp sum stage fed given → fed ≡ header_text items ++ body
       → given ≡ header_text (map (given_item stamp sum) items) ++ body
@@ -166,7 +166,7 @@ module _ (stamp : StampValue) (sum : ℕ) (items : List ItemValue) (body : List 
 sum-append : (xs ys : List ℕ) → sum (xs ++ ys) ≡ sum xs + sum ys
 sum-append xs ys = sum_by-append (λ (x : ℕ). x) xs ys
 
--- The sum of what a stamper gave in the place of a file without fault, without that of its body, is the stamped header's.
+-- The sum of what a stamper gave in place of a file without fault, without that of its body, is the stamped header's.
 pub blanked_sum :
     (stamp : StampValue) (stage : Stage) (items : List ItemValue) (body fed given : List ℕ) (total own : ℕ)
     → IsFaultless items body fed → StandsAt stamp 0 stage fed given → total ≡ sum16 given → own ≡ sum16 body
@@ -203,7 +203,7 @@ sealed_len fed sums (items, body, is, are) =
     are.header_len
     ∙ ap (λ (p : Option HeaderValue). length (header_text (parts_or_none p).items)) (sym (file_parts-text items body fed is.file_text))
 
--- that length stands in two octets
+-- that length is in two octets
 pub sealed_short : (fed : List ℕ) (sums : Sums) → HasSums fed sums → sums.header_len ≤ 65535
 sealed_short fed sums (items, body, is, are) =
     let text : HeaderText items (header_text items) = record { are_items = is.file_text.are_items; text = refl } in

@@ -1,17 +1,17 @@
--- A part of the octets of blocks, one behind another, that lies in one of them.
+-- A part of the octets of blocks, one after another, that lies in one of them.
 use Rattle.std.proofs.Common.{◌≡◌, ℕ, zero, suc, ◌+◌, ◌-◌, ◌*◌, ◌/◌, ◌%◌, ◌<◌, ◌≤◌, List, [], ◌∷◌, ◌++◌, length, take, drop, get_or, refl, sym, ap, ◌∙◌, arith, length-drop, length-append}
 use borrow.Rule.Slice.PartMut.{put_mid}
 use Rattle.std.proofs.lemmas.Slice.{take-put_mid}
 use Rattle.file_store_blocks.proofs.Names.{flat_map, drop-take, take-append-drop, drop-append-le, drop-drop, drop_at, take-append-le, take-take}
 
 module _ (whole : ℕ → List ℕ) (size : (block : ℕ) → length (whole block) ≡ 512) where
-  -- so many blocks have 512 times as many octets
+  -- blocks have 512 times as many octets as there are blocks
   pub length-blocks : (blocks : List ℕ) → length (flat_map whole blocks) ≡ 512 * length blocks
   length-blocks [] = refl
   length-blocks (block ∷ blocks) =
       omega (arith, length-append (whole block) (flat_map whole blocks), size block, length-blocks blocks)
 
-  -- what stands in the block at this place
+  -- what is in the block at this place
   part_at :
       (blocks : List ℕ) (place within count d : ℕ)
       → place < length blocks → within + count ≤ 512

@@ -48,7 +48,7 @@ pub mark_there : (o : Option SealMark) (mark : Seal) → seal_of o ≡ Some mark
 mark_there None mark is = absurd (cc)
 mark_there (Some m) mark is = refl
 
--- a file of which a seal is told is there
+-- a file about which a seal is reported is there
 pub sealed_found : (files : PlacedFiles) (number : ℕ) → file_of files.files number ≡ None → Sealed (store_of files) number → ⊥
 sealed_found files number none sealed = never_some _ (no_entry files number none) (subst (λ (o : Option Placed). IsSome o) (sym sealed.found) refl)
 
@@ -199,7 +199,7 @@ module _ (runs : List Run) (items : List PlacedFile) (next blocks : ℕ) (kept :
       one : IsPlacedFile blocks z.entry
       one = found_holds (IsPlacedFile blocks) number (entries_of zs) z.entry kept.rules.files entry_inside
 
-      -- where its octets stand
+      -- where its octets are
       pub stands_in : (table : Table) → table.runs ≡ runs → table.limit ≡ blocks → StandsIn table blocks (record { run = place; held = x.entry.held })
       stands_in table runs_are limit_is =
           subst (λ (rs : List Run). StandsIn (record table { runs = rs }) blocks (record { run = place; held = x.entry.held })) (sym runs_are)
@@ -216,7 +216,7 @@ module _ (runs : List Run) (items : List PlacedFile) (next blocks : ℕ) (kept :
           let same : sealed.file ≡ z.entry = let here = sealed.found in let also = entry_now in cc in
           is ∙ ap (λ (e : Placed). e.seal) (sym same) ∙ sealed.is
 
-      -- what is read of it, where it is sealed
+      -- what is read of it, if it is sealed
       pub sealed_reads : (mark : Option SealMark) (m : SealMark) → mark ≡ Some m → seal_of mark ≡ x.entry.seal → (table : Table) → HasRuns table (store_of now)
           → ReadsSealed table (store_of now) number (sealed_file place m x.entry)
       sealed_reads mark m mark_is is table has =
@@ -225,7 +225,7 @@ module _ (runs : List Run) (items : List PlacedFile) (next blocks : ℕ) (kept :
           (subst (λ (rs : List Run). place < length rs) (sym same) (omega (arith, in_range, kept.count)))
           (ap (λ (rs : List Run). get_or rs place (new_run 0)) same ∙ run_is)
 
-      -- what a test tells of the file that passes it
+      -- what a test says of the file that passes it
       passes_z : (test : Placed → Bool) → Passes (store_of now) number test → IsTrue (test z.entry)
       passes_z test passes =
           let same : passes.file ≡ z.entry = let here = passes.found in let also = entry_now in cc in
@@ -410,7 +410,7 @@ still_full : (held file_length count : ℕ) → (held ≡ file_length) ⊎ (held
 still_full held file_length count (inl all) room = absurd (omega (arith, all, room))
 still_full held file_length count (inr is) room = is
 
--- a test that tells whether there is a block that stands in no run
+-- a test that says whether there is a block that is in no run
 free_test : (b : Bool) (block blocks times : ℕ) → (IsTrue b → (block < blocks) × (times ≡ 0)) → (block < blocks → times ≡ 0 → IsTrue b)
     → b ≡ (nat_lt block blocks && (times == 0))
 free_test true block blocks times to from = sym (both-true _ _ (lt-ltb _ _ (to refl).0) (eq-eqb _ _ (to refl).1))

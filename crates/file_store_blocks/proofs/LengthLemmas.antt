@@ -11,7 +11,7 @@ pub found_length : (held : Blocks) (store : PlacedStore) (number : ℕ) (f : Pla
 found_length held store number f is found =
     length_octets held store.blocks f (found_holds (IsPlacedFile store.blocks) number store.entries f is.files found)
 
--- what a disk tells on which a journal stands is octets
+-- the content of a disk on which a journal is, if it is observed, is octets
 standing_octets : (position : Position) (content : Option (List ℕ)) (images : List ℕ → Type 0) → StandsAmong position content images → position.failed ≡ false
     → IfSome content IsOctets
 standing_octets position content images (inl failed) healthy = absurd (cc (sym healthy ∙ failed))

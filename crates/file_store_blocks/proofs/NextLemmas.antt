@@ -13,7 +13,7 @@ found_low : (number low next : ℕ) (entries : List Placed) (e : Placed) → Ris
 found_low number low next [] e are found = absurd (cc)
 found_low number low next (x ∷ xs) e are found = grind (arith, nat_tests, found_low number (x.number + 1) next xs e are.2)
 
--- where one more file at the front changes nothing above this number
+-- if one more file at the beginning changes nothing above this number
 module _ (above next blocks : ℕ) (x : Placed) (xs : List Placed) where
   next_skips : ((n : ℕ) → above < n → IsSealedIn (placed_from (x ∷ xs) next blocks) n → IsSealedIn (placed_from xs next blocks) n)
       → ((n : ℕ) → above < n → IsSealedIn (placed_from xs next blocks) n → IsSealedIn (placed_from (x ∷ xs) next blocks) n)
@@ -21,7 +21,7 @@ module _ (above next blocks : ℕ) (x : Placed) (xs : List Placed) where
   next_skips there back None h = λ n lt is. h n lt (there n lt is)
   next_skips there back (Some found) h = (h.0, back found h.0 h.1, λ n lt is. h.2 n lt (there n lt is))
 
-  -- that is so where it isn't above the number, or isn't sealed
+  -- that is so if it isn't above the number, or isn't sealed
   to_rest : (low : ℕ) → Rise low (x ∷ xs) next → (above < x.number → IsTrue (is_sealed x) → ⊥)
       → (n : ℕ) → above < n → IsSealedIn (placed_from (x ∷ xs) next blocks) n → IsSealedIn (placed_from xs next blocks) n
   to_rest low are never n lt is =
@@ -42,7 +42,7 @@ module _ (above next blocks : ℕ) (x : Placed) (xs : List Placed) where
       → (r : Option ℕ) → IsNextSealed (placed_from xs next blocks) above r → IsNextSealed (placed_from (x ∷ xs) next blocks) above r
   skips low are never = next_skips (to_rest low are never) (from_rest low are)
 
-  -- the one at the front is the next
+  -- the first one is the next
   first : (low : ℕ) → Rise low (x ∷ xs) next → above < x.number → IsTrue (is_sealed x) → IsNextSealed (placed_from (x ∷ xs) next blocks) above (Some x.number)
   first low are lt is =
       let here : has_number x.number x ≡ true = grind (arith, nat_tests) in (
@@ -113,7 +113,7 @@ drop_in_runs [] (f ∷ fs) (suc place) same = absurd (omega (arith, same))
 drop_in_runs (r ∷ rs) [] (suc place) same = refl
 drop_in_runs (r ∷ rs) (f ∷ fs) (suc place) same = drop_in_runs rs fs place (omega (arith, same))
 
--- what a search for the first of them tells
+-- what a search for the first of them says
 pub next_at : (next blocks above place : ℕ) (runs : List Run) (items : List PlacedFile) → length runs ≡ length items → Rise 1 (entries_of (in_runs runs items)) next → place ≤ length items
     → IsPartitionPoint (λ f. nat_le f.entry.number above ≡ true) (λ f. nat_le f.entry.number above ≡ false) items place
     → IsNextSealed (placed_from (entries_of (in_runs runs items)) next blocks) above (first_sealed_of (drop place items))

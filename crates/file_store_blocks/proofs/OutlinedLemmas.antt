@@ -1,4 +1,4 @@
--- The store as far as memory tells: it keeps the rules of a store, and tells of each file what the store does.
+-- The store as far as memory shows: it keeps the rules of a store, and reports about each file what the store does.
 use Rattle.std.proofs.Common.{◌≡◌, ℕ, ◌+◌, ◌≤◌, Bool, List, [], ◌∷◌, length, map, replicate, Option, None, Some, refl, ap, ap₂, sym, ◌∙◌, subst, arith}
 use Rattle.std.specs.Prelude.{option_map}
 use Rattle.file_store_blocks.specs.Outlined.{outlined, outlined_entry}
@@ -29,7 +29,7 @@ complete_at : (count : ℕ) (seal : Option Seal) → is_complete (holding_at cou
 complete_at count None = refl
 complete_at count (Some s) = refl
 
--- ---- what is told of a file
+-- ---- what is reported about a file
 
 pub outlined_info : (f : Placed) → info_of (outlined_entry f) ≡ placed_info f
 outlined_info f =
@@ -119,7 +119,7 @@ all_like held limit (f ∷ fs) are keeps =
     } in
     (one, all_like held limit fs are.1 keeps.1)
 
--- where the seals are kept, what is seen is the outline but for the octets
+-- if the seals are kept, what is seen is the outline except for the octets
 pub seen_like : (held : Blocks) (store : PlacedStore) → IsPlaced store → KeepsSeals held store → IsStoreLike (outlined store) (seen held store)
 seen_like held store is keeps = record {
   entries = all_like held store.blocks store.entries is.files keeps;

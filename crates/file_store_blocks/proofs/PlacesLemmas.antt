@@ -1,4 +1,4 @@
--- Lemmas on lists of files: an entry, and beside it what came of an upload of it.
+-- Lemmas on lists of files: an entry, and with it what came of an upload of it.
 use Rattle.std.proofs.Common.{◌≡◌, ◌≢◌, ℕ, zero, suc, ◌+◌, ◌≤◌, ◌<◌, Bool, true, false, not, List, [], ◌∷◌, ◌++◌, length, get_or, set, map, filter, refl, ap, sym, ◌∙◌, subst, arith, inl, inr, None, Some, ◌==◌}
 use Rattle.std.proofs.lemmas.List.Folds.{find-append}
 use Rattle.file_store_blocks.proofs.Names.{find, slice_get, remove, option_map, nat_tests, eqb_tells, changed_past, Rise, Placed, has_number, changed, PlacedFile, entries_of, file_of}
@@ -16,7 +16,7 @@ find_entries number (x ∷ xs) =
       | inr w ↦ rw w.0 (find_entries number xs)
     ]
 
--- what stands at a place
+-- what is at a place
 pub at_place : (files : List PlacedFile) (place : ℕ) (file : PlacedFile) → slice_get files place ≡ Some file → (place < length files) × ((d : PlacedFile) → get_or files place d ≡ file)
 at_place [] place file h = absurd (cc)
 at_place (x ∷ xs) zero file h = (omega arith, λ d. cc)
@@ -51,7 +51,7 @@ differs number x h = grind (arith, nat_tests)
 has : (number : ℕ) (x : PlacedFile) → x.entry.number ≡ number → is_of number x ≡ true
 has number x h = grind (arith, nat_tests)
 
--- a file is found by the number of what stands at its place
+-- a file is found by the number of what is at its place
 pub found_at : (low next : ℕ) (files : List PlacedFile) (number place : ℕ) (file : PlacedFile) → Rise low (entries_of files) next → slice_get files place ≡ Some file
     → file.entry.number ≡ number → file_of files number ≡ Some file
 found_at low next [] number place file are h same = absurd (cc)

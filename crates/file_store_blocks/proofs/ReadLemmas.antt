@@ -15,7 +15,7 @@ reads_more g on old mid new result x ok before read =
     reads_on g on old mid new ⊥ ⊥ (λ none. none) before
     (reads_same g mid new (IsErr result) ⊥ (λ err. ok_no_err result x ok err) (λ none. absurd none) read)
 
--- what a part that was read holds, by what the disk told before
+-- what a part that was read holds, by what was observed of the disk before
 pub part_told :
     (before now : Option (List ℕ)) (table : Table) (file : FileBlocks) (at size count : ℕ) (room : List ℕ)
     → now ≡ before → size ≡ count → (IsTold now → FillsRoom (octets_on now table file) at size room)

@@ -1,4 +1,4 @@
--- Where each number that was given is that of an entry, and stays so, there is room behind the records of a journal.
+-- If each number that was given is that of an entry, and stays so, there is room after the records of a journal.
 use Rattle.std.proofs.Common.{◌≡◌, inl, inr, ℕ, ◌+◌, ◌≤◌, false, List, [], ◌∷◌, length, map, Option, None, Some, sym, ◌∙◌, ap, subst, arith}
 use Rattle.file_store_blocks.proofs.Names.{length-map, Ghosts, ArePlaced, IsPlaced, IsPlacedFile, Rise, blocks_seen, rooms_files, Placed, PlacedStore, Seal, placed_form, placed_steps, placed_seen, holding_with, octets_in, seen, seen_entry, FillBlocks, FillsBlocks, IsSized, size_of_store, AreAllowed, Command, DropsNothing, after_all, most_entries, Store, HasRoomFor, StandsAt, Blocks, HasBlocks, block_in, half_size, Position, are_made, room_within}
 use Rattle.file_store_blocks.proofs.SeenLemmas.{length_octets}
@@ -41,7 +41,7 @@ placed_sized held store is =
 
 -- ---- the room
 
--- Commands that are allowed and drop nothing have room behind the records of a journal, where none was dropped before.
+-- Commands that are allowed and drop nothing have room after the records of a journal, if none was dropped before.
 pub room_for_commands : {D : Type 0} (g : Ghosts D) (position : Position) (now : PlacedStore) (disk : D) (octets : List ℕ) → StandsAt g placed_form placed_steps position now disk
     → position.failed ≡ false → g.content disk ≡ Some octets → length now.entries + 1 ≡ now.next
     → (held : Blocks) (commands : List Command) → AreAllowed (seen held now) commands → DropsNothing commands → HasRoomFor placed_form position commands

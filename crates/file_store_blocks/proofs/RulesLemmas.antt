@@ -24,7 +24,7 @@ sealed_inside store number is sealed =
 
 -- ---- the rules of a store
 
--- the octets of a file fit its length, stamped where it is sealed
+-- the octets of a file fit its length, stamped if it is sealed
 fits_seen : (f : Placed) (octets : List ℕ) (limit : ℕ) (s : Option Seal) → IsPlacedFile limit f → length octets ≡ f.held → (IsSome s → f.held ≡ f.length)
     → IfSome s (λ _. fault_code octets ≡ None) → FitsLength (holding_with s f octets) f.length
 fits_seen f octets limit None is same whole keeps = subst (λ (n : ℕ). n ≤ f.length) (sym same) is.fits

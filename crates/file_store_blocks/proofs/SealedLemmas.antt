@@ -1,4 +1,4 @@
--- What is read of a sealed file, where a table has its run.
+-- What is read of a sealed file, if a table has its run.
 use Rattle.std.proofs.Common.{◌≡◌, ℕ, ◌*◌, ◌≤◌, ◌<◌, List, length, take, Option, Some, ap, sym, ◌∙◌, subst, arith}
 use Rattle.file_store_blocks.specs.declared.sealed_file.SealedFile.{SealedFile}
 use Rattle.file_store_blocks.proofs.Names.{All, flat_map, IsSealable, found_holds, IsPlaced, IsPlacedFile, Placed, PlacedStore, Seal, placed_of, run_of, seal_value, octets_on, ReadsSealed, Sealed, sealed_file, octets_in, stamp_at, whole_block, SealMark, Run, Table, run_at, blocks_on, stamped}

@@ -26,7 +26,7 @@ length_octets held limit f is =
 pub length_used : (held : Blocks) (block used : ℕ) → used ≤ 512 → length (take used (whole_block held block)) ≡ used
 length_used held block used most = length-take-le used (whole_block held block) (omega (arith, most, length_whole held block))
 
--- further octets stand behind those held
+-- further octets come after those held
 pub octets_grown : (held : Blocks) (f : Placed) (block used : ℕ) → f.held ≡ 512 * length f.blocks
     → octets_in held (grown block used f) ≡ octets_in held f ++ take used (whole_block held block)
 octets_grown held f block used full =

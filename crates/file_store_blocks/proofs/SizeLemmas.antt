@@ -71,7 +71,7 @@ module _ (number : ℕ) (change : Entry → Holding) (one : Entry) where
             )
       ]
 
--- and what holds of each entry holds of the one that is found
+-- and what is true of each entry is true of the one that is found
 found_fills : (number : ℕ) (one : Entry) (low next : ℕ) (entries : List Entry) → FillBlocks low entries next → find (has_number number) entries ≡ Some one
     → FillsBlocks one.holding one.length
 found_fills number one low next [] are found = absurd (cc)
@@ -174,7 +174,7 @@ all_sized [] store is ok keeps = is
 all_sized (command ∷ commands) store is ok keeps =
     all_sized commands (after store command) (one_sized store command is ok.0 keeps.0).0 ok.1 keeps.1
 
--- and the store is as much larger behind them as their records have octets.
+-- and the store is as much larger after them as their records have octets.
 pub sizes_after : (commands : List Command) (store : Store) → IsSized store → AreAllowed store commands → DropsNothing commands
     → octets_of placed_form commands + size_of_store store ≡ size_of_store (after_all store commands)
 sizes_after [] store is ok keeps = omega arith
@@ -200,7 +200,7 @@ sizes_most low next (e ∷ es) are =
     one_most (partial held) file_length fills = omega (arith, fills.0)
     one_most (complete octets moment) file_length fills = omega arith
 
--- All of them have room in a half, with a Next before them and a gate behind.
+-- All of them have room in a half, with a Next before them and a gate after them.
 pub size_fits : (store : Store) → IsSized store → 8 + size_of_store store + 1 ≤ half_size store.blocks
 size_fits store is = omega (arith, sizes_most 1 store.next store.entries is.entries, is.few, is.blocks)
 

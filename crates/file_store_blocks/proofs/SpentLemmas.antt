@@ -1,4 +1,4 @@
--- How many octets the records of a half have, where no file was given up whose number came in them.
+-- How many octets the records of a half have, if no file was given up whose number came in them.
 use Rattle.std.proofs.Common.{◌≡◌, ℕ, ◌+◌, ◌*◌, ◌≤◌, ◌∷◌, List, [], length, map, not, filter, true, Option, None, Some, refl, ap, sym, subst, arith, length-append}
 use Rattle.file_store_blocks.specs.AnewLaws.{block_count, length_record}
 use Rattle.file_store_blocks.proofs.Names.{IsSome, IsTrue, nat_le, sum_by, AllByRecursion, and_parts, length-map, sum_by-cons, sum_by_push, sum_changed, sum_without, ArePlaced, IsPlacedFile, IsMade, all_made, nothing_made, step_made, Placed, Seal, has_number, new_placed, begin, can_seal, changed, drop_entry, grow, grown, header_at, is_partial, seal, seal_with, sealed, CanRecord, read_step, record_of_recorded, recorded_in, may_number, ReadStore, Recorded, after_recorded, change, is_recordable, may_have, next_is, nothing_read, begin_len, recorded_says, holding_with, octets_in, seen, seen_entry, entry_octets, held_octets, size_of_store, may_seal, may_take, passed, blocks_for, Blocks, IsRecord, Record, records_text, stepped}
@@ -17,7 +17,7 @@ abbrev sizes : ReadStore → ℕ
 sizes read = sum_by size read.store.entries
 
 -- Of the numbers that came, each is that of an entry, or is gone. While none is gone, the records have no more octets
--- than those that make the store anew.
+-- than those that rebuild the store.
 record IsSpent (read : ReadStore) (octets : ℕ) : Type 0 where
   nothing : read.first ≡ true → octets ≡ 0
   few : length read.store.entries + 1 ≤ read.least
@@ -154,8 +154,8 @@ sizes_seen held limit (f ∷ fs) are =
       sizes_seen held limit fs are.1,
     )
 
--- Where each number that was given is that of an entry, the records that made a store have no more octets than a Next
--- and what makes the store of files that it is seen as.
+-- If each number that was given is that of an entry, the records that made a store have no more octets than a Next and
+-- what makes the store of files that it is seen as.
 pub records_most : (held : Blocks) (blocks : ℕ) (records : List Record) (made : ReadStore) → AllByRecursion IsRecord records
     → Takes (read_step held) (nothing_read blocks) records made → length made.store.entries + 1 ≡ made.store.next
     → (other : Blocks) → length (records_text records) ≤ 8 + size_of_store (seen other made.store)

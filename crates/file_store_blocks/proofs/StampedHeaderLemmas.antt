@@ -3,7 +3,7 @@ use Rattle.std.proofs.Common.{◌≡◌, List, None, length, take, ap, ◌∙◌
 use Rattle.pfh_writer.proofs.ClientLemmas.{kept_file}
 use Rattle.file_store_blocks.proofs.Names.{take_at, IsSealedHeader, header_octets, faultless-code, header-of, items-text, whole-of, fault_code, FileText, HeaderText, ItemValue, header_text, StampValue, stamped, length-stamped, IsCall, IsOctets}
 
--- ---- what stands before the body of a file without fault is its header
+-- ---- what is before the body of a file without fault is its header
 
 front_header :
     (items : List ItemValue) (body file octets : List ℕ) → FileText items body file → fault_code file ≡ None

@@ -14,7 +14,7 @@ length-file content table limit file stands =
     let all = length-blocks (whole_block held) (length-whole held) (blocks_of table file) in
     length-take-le file.held (flat_map (whole_block held) (blocks_of table file)) (omega (arith, all, stands.fits))
 
--- those of blocks of a disk that tells are octets
+-- those of blocks of a disk whose content is observed are octets
 pub told_octets : (content : Option (List ℕ)) (count : ℕ) (blocks : List ℕ) → IfSome content IsOctets → IsTold content
     → IsOctets (take count (flat_map (whole_block (blocks_on content)) blocks))
 told_octets None count blocks are told = absurd (false≢true told)
@@ -51,7 +51,7 @@ keeps_rules octets are none = (no_fault octets are).1 (no_fault-code octets none
 items_are : (items : List ItemValue) (body octets : List ℕ) → IsFaultless items body octets → header_items octets ≡ items
 items_are items body octets is = ap (λ (p : Option HeaderValue). (parts_or_none p).items) (file_parts-text items body octets is.file_text)
 
--- behind the header the octets stand as they were uploaded
+-- after the header the octets are as they were uploaded
 pub body_stays :
     (stamp : StampValue) (octets : List ℕ) (offset : ℕ) → IsCall stamp.by → IsOctets octets → fault_code octets ≡ None
     → length (header_octets octets) ≤ offset → drop offset octets ≡ drop offset (stamped stamp octets)
@@ -82,7 +82,7 @@ body_stays stamp octets offset call are none behind =
 
 -- ---- in the header
 
--- of a file without fault, what a stamper gave in the place of its front is as much of the stamped file
+-- of a file without fault, what a stamper gave in place of a prefix of it is as much of the stamped file
 given_front :
     (stamper : StamperValue) (octets fed given : List ℕ) (count : ℕ) → HasStamped stamper fed given → IsOctets octets
     → fault_code octets ≡ None → stamper.sum ≡ stamped_sum stamper.stamp (header_items octets)

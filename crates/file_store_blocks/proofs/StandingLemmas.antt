@@ -1,4 +1,4 @@
--- What holds of each store for which octets stand.
+-- What is true of each store for which octets stand.
 use Rattle.std.proofs.Common.{◌≡◌, ◌⊎◌, inl, inr, ℕ, ◌+◌, false, List, [], ◌∷◌, length, Option, None, Some, refl, ap, sym, ◌∙◌, subst}
 use Rattle.file_store_blocks.specs.Laws.{AreAllowed, IsPlacedAfter, after_all}
 use Rattle.file_journal.specs.Journal as journal
@@ -9,7 +9,7 @@ use Rattle.file_journal.specs.declared.layout.Layout.{Layout}
 use Rattle.file_journal.specs.declared.layout.Layout.TheVariants as layout
 use Rattle.file_store_blocks.proofs.Names.{IfSome, IsTrue, IsTold, Ghosts, Store, IsOctets, IsPlaced, KeepsSeals, recorded_seals, PlacedStore, placed_form, placed_steps, nothing_is, step_state, CanRecord, placed_magic, read_step, record_of_recorded, recorded_in, read_placed, recorded_blocks, IsReadStore, ReadStore, Recorded, after_recorded, is_recordable, nothing_read, recorded_says, recorded_written, seen, StandsAt, Blocks, block_in, blocks_on, half_in, Position, Reading, Record, broken, whole, StandsAs, walked, Written, after_stands, stands_after, stepped, steps}
 
--- ---- what each step keeps holds of the state to which octets come
+-- ---- what each step keeps is true of the state that octets give
 
 module _ {S : Type 0} (step : S → Record → Option S) (P : S → Type 0) (keeps : (before after : S) (entry : Record) → P before → step before entry ≡ Some after → P after)
     (on : S → Stands S) (now : S) (ends : (s : S) → P s → on s ≡ state now → P now) where
@@ -53,7 +53,7 @@ standing_keeps blocks octets now is = by (journal_of placed_magic layout.Halves 
         (nothing_is (number_or blocks number), tt) is in
         (read_placed now all.0, all.1)
 
--- the same of the state that stands on a disk that tells
+-- the same of the state that is on a disk whose content is observed
 pub kept_seals : {D : Type 0} (g : Ghosts D) (position : Position) (now : PlacedStore) (disk : D) → StandsAt g placed_form placed_steps position now disk → position.failed ≡ false
     → IsTold (g.content disk) → KeepsSeals (blocks_on (g.content disk)) now
 kept_seals g position now disk at healthy told = by (g.content disk) told (at.holds.keeps.content healthy)

@@ -35,7 +35,7 @@ module _ (held : Blocks) (store : PlacedStore) (number block : ℕ) where
           | inr all ↦ inr (omega (arith, before, all))
         ])
 
-    -- octets that were put in the block stand at its front
+    -- octets that were put in the block are at its beginning
     pub put_there : HasPut (Some (record { number = block; octets = octets })) held → take (length octets) (whole_block held block) ≡ octets
     put_there put =
         let zeros : List ℕ = replicate 512 0 in
@@ -56,7 +56,7 @@ module _ (held : Blocks) (store : PlacedStore) (number block : ℕ) where
 
 -- ---- a file sealed
 
--- what the record of a Seal makes of the store, where the check of the file found this
+-- what the record of a Seal makes of the store, if the check of the file found this
 pub seal_step : (held : Blocks) (store : PlacedStore) (number moment sum header : ℕ) (passes : Passes store number is_whole)
     → IsSealable (stamp_at moment passes.file) (octets_in held passes.file) sum header
     → placed_after held store (seal number moment sum) ≡ Some (with_sealed store number (seal_with moment sum header))

@@ -2,7 +2,7 @@
 use Rattle.std.proofs.Common.{◌≡◌, ℕ, ◌+◌, ◌-◌, ◌≤◌, List, ◌++◌, length, take, drop, replicate, get_or, Option, None, Some, sym, ap, ◌∙◌, arith, length-drop, length-append}
 use Rattle.file_store_blocks.proofs.Names.{IfSome, false≢true, get_or_append_left, get_or-drop, get_or-take, length-replicate, length-take, length-take-le, same_lists, FillsRoom, IsTold, Blocks, block_in, block_octets, whole_block}
 
--- the octets with zeros behind them, 512 in all
+-- the octets with zeros after them, 512 in all
 abbrev padded : List ℕ → List ℕ
 padded held = take 512 (held ++ replicate 512 0)
 
@@ -14,7 +14,7 @@ length-padded held =
 pub length-whole : (held : Blocks) (block : ℕ) → length (whole_block held block) ≡ 512
 length-whole held block = length-padded (held block)
 
--- as many octets as there are, and of zeros behind them
+-- as many octets as there are, and of zeros after them
 part_whole :
     (held room : List ℕ) (at : ℕ) → at + length room ≤ 512 → room ≡ take (length room) (drop at held)
     → room ≡ take (length room) (drop at (padded held))

@@ -1,4 +1,4 @@
--- The records that make a store of placed files anew.
+-- The records that rebuild a store of placed files.
 use Rattle.std.specs.Prelude.{ℕ, zero, suc, ◌-◌, min, List, [], ◌∷◌, ◌++◌, map, drop, slice_get, Option, None, Some}
 use Rattle.std.specs.Prelude.{IfSome}
 use Rattle.std.specs.List.{flat_map}
@@ -10,17 +10,18 @@ use Rattle.file_store_blocks.specs.ReadStore.{next_is}
 use Rattle.file_journal.specs.Records.{Record}
 use Rattle.file_journal.specs.declared.ledger.RecordPlace.{RecordPlace}
 
--- one Grow for each of these blocks, in which so many octets of the file of this number stand: 512 in each but the last
+-- one Grow for each of these blocks, in which this number of octets of the file of this number are: 512 in each except
+-- the last
 abbrev pub grows_in : ℕ → ℕ → List ℕ → List PlacedCommand
 grows_in number held [] = []
 grows_in number held (block ∷ blocks) = grow number block (min 512 held) ∷ grows_in number (held - 512) blocks
 
--- the Seal of the file of this number, where it has a seal
+-- the Seal of the file of this number, if it has a seal
 abbrev pub seals_in : ℕ → Option Seal → List PlacedCommand
 seals_in number None = []
 seals_in number (Some mark) = seal number mark.moment mark.sum ∷ []
 
--- the commands that make a file anew
+-- the commands that rebuild a file
 abbrev pub commands_of : Placed → List PlacedCommand
 commands_of file =
     begin file.number file.caller file.length file.begun
@@ -34,11 +35,11 @@ commands_in files = flat_map commands_of files
 abbrev pub written : List PlacedCommand → List Record
 written commands = map record_of_placed commands
 
--- The records that make a store anew: which number is next, and then the commands of each file, in rising number.
+-- The records that rebuild a store: which number is next, and then the commands of each file, in rising number.
 abbrev pub anew_records : PlacedStore → List Record
 anew_records store = record_of_recorded (next_is store.next) ∷ written (commands_in store.entries)
 
--- the records that make these files anew, from this one of the first file on
+-- the records that rebuild these files, from this one of the first file on
 abbrev pub left_in : List Placed → ℕ → List Record
 left_in [] part = []
 left_in (file ∷ files) part = written (drop part (commands_of file) ++ commands_in files)
@@ -51,10 +52,10 @@ left_from store (suc entry) part = left_in (drop entry store.entries) part
 abbrev pub left_at : PlacedStore → RecordPlace → List Record
 left_at store place = left_from store place.entry place.part
 
--- the command of this number among those that make the file at this place anew, if there is one
+-- the command of this number among those that rebuild the file at this place, if there is one
 abbrev pub command_in : PlacedStore → ℕ → ℕ → Option PlacedCommand
 command_in store at part = option_and_then (λ f. slice_get (commands_of f) part) (slice_get store.entries at)
 
--- this holds of the file at this place
+-- this is true of the file at this place
 abbrev pub IsAt : PlacedStore → ℕ → (Placed → Type 0) → Type 0
 IsAt store at says = IfSome (slice_get store.entries at) says

@@ -1,4 +1,4 @@
--- The records that make a store anew are records, have room in a half with one more, and make it.
+-- The records that rebuild a store are records, have room in a half with one more, and make it.
 use Rattle.std.proofs.Common.{◌≡◌, ℕ, ◌+◌, ◌-◌, ◌*◌, ◌≤◌, List, [], ◌∷◌, ◌++◌, length, min, Option, None, Some}
 use Rattle.std.proofs.Common.{refl, ap, ◌∙◌, subst, arith, length-append}
 use Rattle.std.specs.Prelude.{sum_by}
@@ -59,7 +59,7 @@ seals_octets : (number : ℕ) (mark : Option Seal) → length (records_text (wri
 seals_octets number None = omega arith
 seals_octets number (Some mark) = omega arith
 
--- the octets of records that are written one behind another
+-- the octets of records that are written one after another
 written_octets :
     (one other : List PlacedCommand)
     → length (records_text (written (one ++ other)))

@@ -19,13 +19,13 @@ abbrev pub AnswersWhether : Blocks → Bool → EntriesState → EntriesState �
 AnswersWhether held true before now command = IsDone held before now command
 AnswersWhether held false before now command = may_change held (read_of before) command ≡ false
 
--- the least number of a further file after it, where its condition holds
+-- the least number of a further file after it, if its condition holds
 abbrev pub least_now : Bool → ℕ → PlacedCommand → ℕ
 least_now true least command = least_after least command
 least_now false least command = least
 
--- On a disk of this content it is answered whether the condition of the command holds, where the disk tells; where the
--- answer is no, all is as it was. The entries keep their rules.
+-- On a disk of this content it is answered whether the condition of the command holds, if the content is observed; if
+-- the answer is no, all is as it was. The entries keep their rules.
 pub record Applied (content : Option (List ℕ)) (done : Bool) (before now : EntriesState) (command : PlacedCommand)
     : Type 0 where
   pub answers : IsTold content → AnswersWhether (blocks_on content) done before now command
@@ -35,7 +35,7 @@ pub record Applied (content : Option (List ℕ)) (done : Bool) (before now : Ent
   pub first : now.first ≡ before.first
   pub rules : IsReadStore (read_of now)
 
--- it is answered whether this may be the next number, and where it may, it is
+-- it is answered whether this may be the next number, and if it may, it is
 pub record TakesNext (done : Bool) (before now : EntriesState) (number : ℕ) : Type 0 where
   pub may : done ≡ (before.first && nat_le before.least number)
   pub store : done ≡ true → store_of now.files ≡ with_next number (store_of before.files)
@@ -55,7 +55,8 @@ pub record AppliesRecord (content : Option (List ℕ)) (done : Bool) (before now
   pub number : now.files.blocks ≡ before.files.blocks
   pub rules : IsReadStore (read_of now)
 
--- where the disk tells, it is told whether the file of this number may be sealed so, and how long its header is
+-- if the disk's content is observed, it is answered whether the file of this number may be sealed so, and how long its
+-- header is
 abbrev pub TellsSeal : Option (List ℕ) → PlacedStore → ℕ → ℕ → ℕ → Option ℕ → Type 0
 TellsSeal content store number moment sum header =
     IsTold content

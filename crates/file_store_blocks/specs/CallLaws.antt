@@ -1,4 +1,4 @@
--- A record that is a command names a call, where the command names a caller.
+-- A record that is a command names a call, if the command names a caller.
 use Rattle.std.proofs.Common.{◌≡◌, ℕ, ◌==◌, List, length, take, drop, None, Some, sym, subst, inl, inr}
 use Rattle.std.specs.Prelude.{if◌then◌else◌}
 use Rattle.std.proofs.lemmas.Bool.Decides.{eqb_tells}

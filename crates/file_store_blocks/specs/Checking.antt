@@ -58,13 +58,13 @@ pub record HasPassed (setting : StampSetting) (stamper : StamperValue) (fed : Li
 abbrev pub stamp_of : Stamp → StampValue
 stamp_of stamp = record { number = stamp.number; by = stamp.by; moment = stamp.moment }
 
--- where the disk tells, what the check of this file of a store found: with the stamp of this moment
+-- if the disk's content is observed, what the check of this file of a store found: with the stamp of this moment
 abbrev pub ChecksFile : Option (List ℕ) → Option Placed → ℕ → CheckedHeader → Type 0
 ChecksFile content file moment header =
     IsTold content
     → IfSome file (λ f. IsSealable (stamp_at moment f) (octets_in (blocks_on content) f) header.sum header.len)
 
--- where the disk tells, the first rule that this file of a store breaks
+-- if the disk's content is observed, the first rule that this file of a store breaks
 abbrev pub HasFault : Option (List ℕ) → Option Placed → ℕ → Type 0
 HasFault content file code =
     IsTold content → IfSome file (λ f. fault_code (octets_in (blocks_on content) f) ≡ Some code)

@@ -18,7 +18,7 @@ pub found_number :
 found_number number [] file found = absurd (cc)
 found_number number (f ∷ fs) file found = grind (arith, nat_tests, found_number number fs file)
 
--- and what holds of each holds of it
+-- and what is true of each is true of it
 pub found_holds :
     (P : Placed → Type 0) (number : ℕ) (files : List Placed) (file : Placed) → AllByRecursion P files
     → find (has_number number) files ≡ Some file → P file
@@ -100,7 +100,7 @@ changed_past number change low next [] rise past = refl
 changed_past number change low next (f ∷ fs) rise past =
     grind (arith, nat_tests, changed_past number change (f.number + 1) next fs rise.2)
 
--- what holds of each file, and of the changed one
+-- what is true of each file, and of the changed one
 module _ (P : Placed → Type 0) (number : ℕ) (change : Placed → Placed) (file : Placed) (here : P (change file)) where
   pub all_changed :
       (low next : ℕ) (files : List Placed) → Rise low files next → find (has_number number) files ≡ Some file

@@ -1,4 +1,4 @@
--- What holds of each store of placed files that the commands make.
+-- What is true of each store of placed files that the commands make.
 use Rattle.std.specs.Prelude.{◌≡◌, ◌⊎◌, ℕ, ◌+◌, ◌*◌, ◌≤◌, ◌<◌, List, [], ◌∷◌, length, All, IsSome, IfSome, None, ⊤}
 use Rattle.std.specs.List.{AllByRecursion}
 use Rattle.file_store_blocks.specs.Placed.{Placed, PlacedStore, runs_of}
@@ -15,9 +15,9 @@ abbrev pub Rise : ℕ → List Placed → ℕ → Type 0
 Rise low [] next = ⊤
 Rise low (file ∷ files) next = (low ≤ file.number) × (file.number < next) × Rise (file.number + 1) files next
 
--- The caller is a call. No more octets are held than the file has, all where it is sealed, and its header is no longer.
--- They take as few blocks as they may: each of these is full, but where all octets are held. The blocks are among so
--- many.
+-- The caller is a call. No more octets are held than the file has, all if it is sealed, and its header is no longer.
+-- They take as few blocks as they may: each of these is full, unless all octets are held. The blocks are among this
+-- number of them.
 pub record IsPlacedFile (limit : ℕ) (file : Placed) : Type 0 where
   pub caller : IsCall file.caller
   pub short : file.length ≤ longest_file
@@ -32,7 +32,7 @@ pub record IsPlacedFile (limit : ℕ) (file : Placed) : Type 0 where
 abbrev pub ArePlaced : ℕ → List Placed → Type 0
 ArePlaced limit files = AllByRecursion (IsPlacedFile limit) files
 
--- The numbers rise from 1 on, each file is one, no block stands twice, be it in one file or in two, and there are no
+-- The numbers rise from 1 on, each file is one, no block occurs twice, be it in one file or in two, and there are no
 -- more entries and blocks than may be.
 pub record IsPlaced (store : PlacedStore) : Type 0 where
   pub numbers : Rise 1 store.entries store.next

@@ -40,7 +40,7 @@ use Rattle.px_base.specs.CallSign.{CallSign, IsCall}
 pub sum_map : {A B : Type 0} (g : B → ℕ) (v : A → B) (xs : List A) → sum_by g (map v xs) ≡ sum_by (λ x. g (v x)) xs
 sum_map g v xs = fold-map (λ (a : ℕ) x. a + g x) v 0 xs
 
--- how often a block stands in a file
+-- how often a block occurs in a file
 abbrev pub times_at : ℕ → Placed → ℕ
 times_at block file = times_in block (run_of file)
 
@@ -79,7 +79,7 @@ new_is limit number caller file_length moment call short = record {
   below = λ i d h. omega (arith, h);
 }
 
--- so many further octets come in one more block, where the file has room for them
+-- this number of further octets comes in one more block, if the file has room for them
 held_more : (held used file_length count : ℕ) → (held ≡ file_length) ⊎ (held ≡ 512 * count) → held + used ≤ file_length
     → 1 ≤ used → held ≡ 512 * count
 held_more held used file_length count (inl all) room some = absurd (omega (arith, all, room, some))
@@ -149,7 +149,7 @@ none_is_placed blocks = record {
   rooms = omega arith;
 }
 
--- what the condition of a Begin says, where so many entries stand, which take so many blocks
+-- what the condition of a Begin says, if there are this many entries, which take this many blocks
 abbrev pub Comes : PlacedStore → ℕ → ℕ → ℕ → ℕ → Type 0
 Comes store number file_length count taken =
     MayCome number store.next file_length count (taken + blocks_for file_length) store.blocks
@@ -300,7 +300,7 @@ header_within octets none =
     ap (λ (p : Option HeaderValue). length (header_text (parts_or_none p).items)) good.are in
     omega (arith, all, same, length-append (header_text good.parts.items) good.parts.body)
 
--- what is told of the header of the file that is found
+-- what is reported about the header of the file that is found
 pub header_found :
     (held : Blocks) (store : PlacedStore) (number : ℕ) (file : Placed) → placed_of store number ≡ Some file
     → header_at held store number ≡ header_in held file

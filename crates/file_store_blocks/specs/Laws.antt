@@ -25,7 +25,7 @@ use Rattle.file_journal.specs.declared.layout.Layout.TheVariants as layout
 use Rattle.px_base.specs.Octets.{IsOctets}
 
 -- A store without entries keeps the rules of a store of placed files, and so does each command whose condition holds,
--- where the caller that it names is a call. It keeps the seals too.
+-- if the caller that it names is a call. It keeps the seals too.
 abbrev pub PlacedLaw : Type 0
 PlacedLaw =
     ((blocks : ℕ) → IsPlaced (no_entries blocks))
@@ -52,13 +52,13 @@ SeenLaw =
     → IsTrue (file.is_allowed (seen held store) (seen_command held command))
     × (seen held (after held store command) ≡ file.after (seen held store) (seen_command held command)))
 
--- Where the seals are kept, the rules of a store hold of what is seen, of 1 to 65,536 blocks.
+-- If the seals are kept, the rules of a store are true of what is seen, of 1 to 65,536 blocks.
 abbrev pub StoreLaw : Type 0
 StoreLaw =
     (held : Blocks) (store : PlacedStore) → IsPlaced store → KeepsSeals held store → 1 ≤ store.blocks
     → store.blocks ≤ 65536 → IsStore (seen held store)
 
--- A record of at most 600 octets is read as a command exactly where it is that command's record; and each command that
+-- A record of at most 600 octets is read as a command exactly when it is that command's record; and each command that
 -- can be written has such a record. The same of all that a record says.
 abbrev pub RecordsLaw : Type 0
 RecordsLaw =
@@ -78,8 +78,8 @@ AreAllowed held read records =
 abbrev pub after_all : Blocks → ReadStore → List Recorded → ReadStore
 after_all held read records = kept.after_all (after_recorded held) read records
 
--- The octets are a journal behind so many blocks, or have no block number yet, and its records say this, each of which
--- the store before it allows with what the blocks hold, from nothing on; and this is the store after them.
+-- The octets are a journal after this number of blocks, or have no block number yet, and its records say this, each of
+-- which the store before it allows with what the blocks hold, from nothing on; and this is the store after them.
 pub record IsPlacedAfter (octets : List ℕ) (now : ReadStore) (records : List Recorded) : Type 0 where
   pub number : Option ℕ
   pub is_number : (number ≡ None) ⊎ (number ≡ Some now.store.blocks)
@@ -89,7 +89,7 @@ pub record IsPlacedAfter (octets : List ℕ) (now : ReadStore) (records : List R
   pub allowed : AreAllowed (block_in octets) (nothing_read now.store.blocks) records
   pub after_is : now ≡ after_all (block_in octets) (nothing_read now.store.blocks) records
 
--- Octets stand for a store of files exactly where they are the records that make a store of placed files which, with
+-- Octets stand for a store of files exactly when they are the records that make a store of placed files which, with
 -- what its blocks hold, is seen as that one.
 abbrev pub IsOneStanding : Type 0
 IsOneStanding =

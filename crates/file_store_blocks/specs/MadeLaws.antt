@@ -1,4 +1,4 @@
--- What holds of each store that records made, where the blocks hold what they held.
+-- What is true of each store that records made, if the blocks hold what they held.
 use Rattle.std.proofs.Common.{◌≡◌, ℕ, ◌≤◌, ◌++◌, ◌∷◌, List, [], not, Some, ap, sym, ◌∙◌, subst}
 use Rattle.std.proofs.Common.{arith}
 use Rattle.std.specs.Prelude.{IsTrue}
@@ -25,7 +25,7 @@ use Rattle.file_journal.specs.Ledger.{Takes}
 use Rattle.file_journal.specs.Records.{IsRecord, Record}
 use Rattle.file_journal.proofs.Offered.{stepped}
 
--- what holds of each store that records made, where the blocks hold what they held
+-- what is true of each store that records made, if the blocks hold what they held
 pub record IsMade (held : Blocks) (read : ReadStore) : Type 0 where
   pub is : IsReadStore read
   pub keeps : KeepsSeals held read.store
@@ -37,7 +37,7 @@ all_blocks_push :
 all_blocks_push [] block all here = (here, tt)
 all_blocks_push (b ∷ bs) block all here = (all.0, all_blocks_push bs block all.1 here)
 
--- the numbers of each file fit behind a command
+-- the numbers of each file fit after a command
 files_fit :
     (held : Blocks) (store : PlacedStore) (command : PlacedCommand) → IsPlaced store → IsWritable command
     → IsTrue (is_allowed held store command) → AllByRecursion FitsOctets store.entries
@@ -63,7 +63,7 @@ files_fit held store (drop_entry number) is writable ok all =
     all_filter FitsOctets (λ f. not (has_number number f)) store.entries all
 
 module _ (held : Blocks) (read : ReadStore) where
-  -- what holds of each file, with no regard to the next number
+  -- what is true of each file, with no regard to the next number
   same_files :
       (P : Placed → Type 0) (command : PlacedCommand) → AllByRecursion P read.store.entries
       → AllByRecursion P (store_for read command).entries

@@ -1,4 +1,4 @@
--- Which files the entries are as far as memory tells: with zeros in place of the octets that the blocks hold.
+-- Which files the entries are as far as memory shows: with zeros in place of the octets that the blocks hold.
 use Rattle.std.specs.Prelude.{map, replicate}
 use Rattle.std.specs.Option.{option_map}
 use Rattle.file_store_blocks.specs.Placed.{Placed, PlacedStore}

@@ -1,4 +1,4 @@
--- What a store of files is where the octets of its files stand in blocks of a disk: of each entry, in which blocks.
+-- What a store of files is when the octets of its files are in blocks of a disk: of each entry, in which blocks.
 use Rattle.std.specs.Prelude.{ℕ, ◌≤◌, ◌==◌, List, [], Bool, if◌then◌else◌, find, map, sum_by}
 use Rattle.std.specs.Prelude.{Option, None, is_some}
 use Rattle.file_store_blocks.specs.BlockTable.Table.{Run, times_in, times_of}
@@ -12,7 +12,7 @@ pub record Seal : Type 0 where
   pub header : ℕ
 
 -- a file: its number, whose it is, its length in octets, the moment in which it was begun; how many octets are held, in
--- which blocks, in order; and its seal, where it has one
+-- which blocks, in order; and its seal, if it has one
 pub record Placed : Type 0 where
   pub number : ℕ
   pub caller : CallSign
@@ -77,7 +77,7 @@ Uses store block = 1 ≤ times_of block (runs_of store.entries)
 abbrev pub is_sealed : Placed → Bool
 is_sealed file = is_some file.seal
 
--- how often the block stands in a file that is sealed
+-- how often the block occurs in a file that is sealed
 abbrev pub times_sealed : ℕ → Placed → ℕ
 times_sealed block file = if is_sealed file then times_in block (run_of file) else 0
 

@@ -1,4 +1,4 @@
--- The commands that change which files there are and in which blocks they stand, with the condition of each and what it
+-- The commands that change which files there are and in which blocks they are, with the condition of each and what it
 -- does.
 use Rattle.std.specs.Prelude.{ℕ, ◌+◌, ◌==◌, [], ◌∷◌, ◌++◌, map, filter, take, Bool, not, ◌&&◌, ◌||◌}
 use Rattle.std.specs.Prelude.{false, nat_le, nat_lt, if◌then◌else◌, option_map, unwrap_or, is_none, Some}
@@ -15,7 +15,8 @@ use Rattle.px_base.specs.CallSign.{CallSign}
 pub data PlacedCommand : Type 0 where
   -- a file of this number, caller, length and moment is begun
   begin : ℕ → CallSign → ℕ → ℕ → PlacedCommand
-  -- so many further octets of the file of this number are held, from the front of this block: number, block, octets
+  -- further octets of the file of this number are held, from the beginning of this block: number, block, how many
+  -- octets
   grow : ℕ → ℕ → ℕ → PlacedCommand
   -- the file is whole, and is kept with its stamp of this moment, with which its header has this sum
   seal : ℕ → ℕ → ℕ → PlacedCommand
@@ -30,7 +31,8 @@ passes_at store number test = unwrap_or (option_map test (placed_of store number
 abbrev pub is_partial : Placed → Bool
 is_partial file = not (is_sealed file)
 
--- whether the file is under way and has room for so many further octets, which fill a block or are all that it lacks
+-- whether the file is under way and has room for this number of further octets, which fill a block or are all that it
+-- lacks
 abbrev pub can_grow : Placed → ℕ → Bool
 can_grow file used =
     is_partial file && nat_le (file.held + used) file.length && ((used == 512) || (file.held + used == file.length))
@@ -58,7 +60,7 @@ is_allowed held store (grow number block used) =
 is_allowed held store (seal number moment sum) = passes_at store number (λ f. can_seal held f moment sum)
 is_allowed held store (drop_entry number) = passes_at store number is_partial
 
--- the file with so many further octets, in this block
+-- the file with this number of further octets, in this block
 abbrev pub grown : ℕ → ℕ → Placed → Placed
 grown block used file = record file { held = file.held + used; blocks = file.blocks ++ block ∷ [] }
 
@@ -66,7 +68,7 @@ grown block used file = record file { held = file.held + used; blocks = file.blo
 abbrev pub seal_with : ℕ → ℕ → ℕ → Seal
 seal_with moment sum header = record { moment = moment; sum = sum; header = header }
 
--- the length of the header of the file of this number; 0 where there is none
+-- the length of the header of the file of this number; 0 if there is none
 abbrev pub header_at : Blocks → PlacedStore → ℕ → ℕ
 header_at held store number = unwrap_or (option_map (header_in held) (placed_of store number)) 0
 
@@ -86,7 +88,7 @@ with_changed store number change = record store { entries = map (changed number 
 abbrev pub with_new : PlacedStore → Placed → PlacedStore
 with_new store file = record store { entries = store.entries ++ file ∷ []; next = file.number + 1 }
 
--- the store in which so many further octets of the file of this number are held, in this block
+-- the store in which this many further octets of the file of this number are held, in this block
 abbrev pub with_grown : PlacedStore → ℕ → ℕ → ℕ → PlacedStore
 with_grown store number block used = with_changed store number (grown block used)
 

@@ -1,4 +1,4 @@
--- The placed files as the code has them: beside each one, what came of an upload of it that is out and isn't held yet.
+-- The placed files as the code has them: with each one, what came of an upload of it that is out and isn't held yet.
 use Rattle.std.specs.Prelude.{◌≡◌, ◌≢◌, ℕ, ◌≤◌, ◌<◌, ◌==◌, List, [], ◌∷◌, ◌++◌, length, map, find}
 use Rattle.std.specs.Prelude.{slice_get, Option, None, Some, Bool, IsSome, IsTrue, nat_lt, if◌then◌else◌}
 use Rattle.std.specs.Option.{option_and_then, option_map}
@@ -10,7 +10,7 @@ use Rattle.file_store_blocks.specs.declared.stored_file.SealMark.{SealMark}
 use Rattle.file_store_blocks.specs.BlockTable.Table.{Run}
 use Rattle.file_store_model.specs.declared.info.Info.{Info}
 
--- an entry, and where an upload of it is out, the octets that came and aren't held yet
+-- an entry, and if an upload of it is out, the octets that came and aren't held yet
 pub record PlacedFile : Type 0 where
   pub entry : Placed
   pub rest : Option (List ℕ)
@@ -53,7 +53,7 @@ pub record KeepsReading (before now : EntriesState) : Type 0 where
 abbrev pub file_of : List PlacedFile → ℕ → Option PlacedFile
 file_of files number = find (λ f. f.entry.number == number) files
 
--- the octets that came of the entry of this number and aren't held yet, where an upload of it is out
+-- the octets that came of the entry of this number and aren't held yet, if an upload of it is out
 abbrev pub rest_of : PlacedFiles → ℕ → Option (List ℕ)
 rest_of files number = option_and_then (λ f. f.rest) (file_of files.files number)
 
@@ -75,7 +75,7 @@ pub record Becomes (before now : PlacedFiles) (store : PlacedStore) (number : �
   pub here : rest_of now number ≡ rest
   pub others : KeepsRests before now number
 
--- The store is as it was, and so is each upload that is out but the one of this number, which is so now.
+-- The store is as it was, and so is each upload that is out except the one of this number, which is so now.
 abbrev pub ChangesRest : PlacedFiles → PlacedFiles → ℕ → Option (List ℕ) → Type 0
 ChangesRest before now number rest = Becomes before now (store_of before) number rest
 
@@ -84,7 +84,7 @@ abbrev pub octets_or_none : Option (List ℕ) → List ℕ
 octets_or_none None = []
 octets_or_none (Some octets) = octets
 
--- so many octets wait of the upload of this number that is out, and no more
+-- this many octets wait of the upload of this number that is out, and no more
 abbrev pub Waits : PlacedFiles → ℕ → ℕ → Type 0
 Waits files number count = (rest : List ℕ) × (rest_of files number ≡ Some rest) × (length rest ≡ count)
 
@@ -98,7 +98,7 @@ pub record IsPlace (files : List PlacedFile) (number place : ℕ) : Type 0 where
   pub there : slice_get files place ≡ Some file
   pub same : file.entry.number ≡ number
 
--- the file with these octets behind those that wait, where an upload is out
+-- the file with these octets after those that wait, if an upload is out
 abbrev pub brought : PlacedFile → List ℕ → PlacedFile
 brought file octets = record file { rest = option_map (λ rest. rest ++ octets) file.rest }
 
@@ -126,7 +126,7 @@ IsNextSealed store above (Some next) =
 abbrev pub is_sealed_file : PlacedFile → Bool
 is_sealed_file file = is_sealed file.entry
 
--- what a store tells of a file
+-- what a store reports about a file
 abbrev pub placed_info : Placed → Info
 placed_info file =
     record {
@@ -140,7 +140,7 @@ placed_info file =
 
 -- ---- how the code has them: each file without its blocks, which the run at its place has
 
--- the octets that wait, where an upload is out
+-- the octets that wait, if an upload is out
 abbrev pub rest_when : Bool → List ℕ → Option (List ℕ)
 rest_when out octets = if out then Some octets else None
 
@@ -148,7 +148,7 @@ rest_when out octets = if out then Some octets else None
 abbrev pub seal_value : SealMark → Seal
 seal_value mark = record { moment = mark.moment; sum = mark.sum; header = mark.header_len }
 
--- the same, where there is one
+-- the same, if there is one
 abbrev pub seal_of : Option SealMark → Option Seal
 seal_of mark = option_map seal_value mark
 

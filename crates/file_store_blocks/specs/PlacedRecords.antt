@@ -72,11 +72,11 @@ abbrev pub begin_by : List ℕ → Option CallSign → Option PlacedCommand
 begin_by content call =
     option_map (λ caller. begin (le32 content 0) caller (le32 content 11) (le32 content 15)) call
 
--- the command of a record of kind 1, where the content has 19 octets and its call is one
+-- the command of a record of kind 1, if the content has 19 octets and its call is one
 abbrev pub begin_in : List ℕ → Option PlacedCommand
 begin_in content = if length content == 19 then begin_by content (call_in (take 7 (drop 4 content))) else None
 
--- that of a record of kind 2 or 3, where it has ten octets
+-- that of a record of kind 2 or 3, if it has ten octets
 abbrev pub grow_in : List ℕ → Option PlacedCommand
 grow_in content =
     if length content == 10 then Some (grow (le32 content 0) (le32 content 4) (le16 content 8)) else None
@@ -85,7 +85,7 @@ abbrev pub seal_in : List ℕ → Option PlacedCommand
 seal_in content =
     if length content == 10 then Some (seal (le32 content 0) (le32 content 4) (le16 content 8)) else None
 
--- that of a record of kind 4, where it has four
+-- that of a record of kind 4, if it has four
 abbrev pub drop_in : List ℕ → Option PlacedCommand
 drop_in content = if length content == 4 then Some (drop_entry (le32 content 0)) else None
 
@@ -98,11 +98,11 @@ placed_in entry =
     else if entry.kind == 4 then drop_in entry.content
     else None
 
--- the store after the command, where its condition holds with what the blocks hold
+-- the store after the command, if its condition holds with what the blocks hold
 abbrev pub placed_after : Blocks → PlacedStore → PlacedCommand → Option PlacedStore
 placed_after held store command = if is_allowed held store command then Some (after held store command) else None
 
--- which number is next by a record of kind 5, where it has four octets
+-- which number is next by a record of kind 5, if it has four octets
 abbrev pub next_in : List ℕ → Option Recorded
 next_in content = if length content == 4 then Some (next_is (le32 content 0)) else None
 
@@ -110,12 +110,12 @@ next_in content = if length content == 4 then Some (next_is (le32 content 0)) el
 unfoldable pub recorded_in : Record → Option Recorded
 recorded_in entry = if entry.kind == 5 then next_in entry.content else option_map change (placed_in entry)
 
--- the store after what a record says, where it allows that with what the blocks hold
+-- the store after what a record says, if it allows that with what the blocks hold
 abbrev pub read_after : Blocks → ReadStore → Recorded → Option ReadStore
 read_after held read recorded =
     if is_recordable held read recorded then Some (after_recorded held read recorded) else None
 
--- the store after the record, where it is a store's, and is allowed
+-- the store after the record, if it is a store's, and is allowed
 abbrev pub read_step : Blocks → ReadStore → Record → Option ReadStore
 read_step held read entry = option_and_then (read_after held read) (recorded_in entry)
 
@@ -127,8 +127,8 @@ placed_magic = 80 ∷ 88 ∷ 83 ∷ 84 ∷ 79 ∷ 82 ∷ 69 ∷ 49 ∷ []
 abbrev pub put_somewhere : List ℕ → Option PutBlock
 put_somewhere octets = Some (record { number = 0; octets = octets })
 
--- how many calls of the disk a command takes: those of its record, and where octets are put in a block before it, those
--- of that block
+-- how many calls of the disk a command takes: those of its record, and if octets are put in a block before it, those of
+-- that block
 abbrev pub calls_for : Command → ℕ
 calls_for (file.begin number caller file_length moment) = record_calls
 calls_for (file.grow number octets) = block_calls (put_somewhere octets) + record_calls

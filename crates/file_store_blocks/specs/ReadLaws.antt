@@ -75,7 +75,7 @@ module _ (held : Blocks) (read : ReadStore) where
   rules_for (seal number moment sum) is ok = is.rules
   rules_for (drop_entry number) is ok = is.rules
 
-  -- what it makes is what the command makes of that store, but for the next number
+  -- what it makes is what the command makes of that store, except for the next number
   pub made_for :
       (command : PlacedCommand)
       → with_next (least_after read.least command) (store_after held read.store command)
@@ -106,7 +106,7 @@ recorded_blocks held read (change (drop_entry number)) = refl
 
 -- ---- a record keeps the rules
 
--- the caller that it names is a call, where it names one
+-- the caller that it names is a call, if it names one
 abbrev pub NamesCall : Blocks → Recorded → Type 0
 NamesCall held (next_is number) = ⊤
 NamesCall held (change command) = HasCall (seen_command held command)

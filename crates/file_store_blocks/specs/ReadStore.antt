@@ -26,7 +26,7 @@ pub data Recorded : Type 0 where
 abbrev pub may_have : ReadStore → ℕ → Bool
 may_have read number = nat_le read.least number && nat_le number read.store.next
 
--- Whether the condition of the command holds, with what the blocks hold. Where no record said which number is next, the
+-- Whether the condition of the command holds, with what the blocks hold. If no record said which number is next, the
 -- least number is the next one, and a file that is begun has it.
 abbrev pub may_change : Blocks → ReadStore → PlacedCommand → Bool
 may_change held read (begin number caller file_length moment) =
@@ -54,7 +54,7 @@ least_after least (grow number block used) = least
 least_after least (seal number moment sum) = least
 least_after least (drop_entry number) = least
 
--- Whether the store allows the record, with what the blocks hold. Which number is next is said by no record but the
+-- Whether the store allows the record, with what the blocks hold. Which number is next is said by no record except the
 -- first one, and it is 1 at least.
 abbrev pub is_recordable : Blocks → ReadStore → Recorded → Bool
 is_recordable held read (next_is number) = read.first && nat_le read.least number
@@ -71,7 +71,7 @@ after_recorded held read (change command) =
       first = false;
     }
 
--- What holds of each store that records make: it keeps its rules, its files have numbers below the least one that a
+-- What is true of each store that records make: it keeps its rules, its files have numbers below the least one that a
 -- further file may have, and that is the next one at most.
 pub record IsReadStore (read : ReadStore) : Type 0 where
   pub rules : IsPlaced (with_next read.least read.store)

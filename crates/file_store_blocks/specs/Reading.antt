@@ -1,4 +1,4 @@
--- How the blocks in which files stand are read.
+-- How the blocks of files are read.
 use Rattle.std.specs.Prelude.{◌≡◌, ℕ, ◌*◌, ◌<◌, ◌≤◌, List, length, take, All, false, Option}
 use Rattle.std.specs.List.{flat_map}
 use Rattle.file_store_blocks.specs.Seen.{whole_block}
@@ -16,7 +16,7 @@ use Rattle.file_journal.specs.Steps.{Steps}
 abbrev pub block_octets : Option (List ℕ) → ℕ → List ℕ
 block_octets content block = whole_block (blocks_on content) block
 
--- A journal stands on the disk, behind blocks, and has not failed: the blocks may be read by it.
+-- A journal is on the disk, after blocks, and has not failed: the blocks may be read by it.
 pub record MayRead {D : Type 0} (g : Ghosts D) (journal : Position) (disk : D) : Type 0 where
   pub stands_on : StandsOn g journal disk
   pub healthy : journal.failed ≡ false
@@ -29,7 +29,7 @@ pub record MayReadKept {D S K V C : Type 0} (g : Ghosts D) (form : Form V C) (st
   pub healthy : journal.failed ≡ false
   pub has_blocks : HasBlocks form.layout
 
--- the blocks in which the octets of a file stand
+-- the blocks in which the octets of a file are
 abbrev pub blocks_of : Table → FileBlocks → List ℕ
 blocks_of table file = (run_at table file.run).blocks
 
@@ -37,8 +37,8 @@ blocks_of table file = (run_at table file.run).blocks
 abbrev pub octets_on : Option (List ℕ) → Table → FileBlocks → List ℕ
 octets_on content table file = take file.held (flat_map (whole_block (blocks_on content)) (blocks_of table file))
 
--- The file has a run of the table, whose blocks are among so many, and in which its octets have room; it is no longer
--- than may be.
+-- The file has a run of the table, whose blocks are among this number of blocks, and in which its octets have room; it
+-- is no longer than may be.
 pub record StandsIn (table : Table) (limit : ℕ) (file : FileBlocks) : Type 0 where
   pub there : file.run < length table.runs
   pub below : All (λ b. b < limit) (blocks_of table file)

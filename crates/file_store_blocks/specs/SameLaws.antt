@@ -28,7 +28,7 @@ use Rattle.pfh_items.specs.Faults.{fault_code}
 
 -- ---- the octets of files whose blocks hold the same
 
--- how often a block stands in a list
+-- how often a block occurs in a list
 abbrev times_among : ℕ → List ℕ → ℕ
 times_among block blocks = count_by (λ b. b == block) blocks
 
@@ -201,7 +201,7 @@ can_begin_same one other store file_length =
     && nat_le (t + blocks_for file_length) store.blocks)
     count taken
 
--- the octets of a file that may be sealed are the same where its blocks hold the same
+-- the octets of a file that may be sealed are the same if its blocks hold the same
 sealed_same :
     (one other : Blocks) (store : PlacedStore) (number moment sum : ℕ) → IsPlaced store
     → (passes : Passes store number (λ f. can_seal one f moment sum))
@@ -213,7 +213,7 @@ sealed_same one other store number moment sum is passes same =
     let mark = seal_with moment sum (header_at one store number) in
     octets_same one other f (λ b some. same b (seal_decides store number mark f is passes.found none b some))
 
--- A command that is allowed is allowed too where the blocks of the files that are sealed after it hold the same.
+-- A command that is allowed is allowed too if the blocks of the files that are sealed after it hold the same.
 pub allowed_same :
     (one other : Blocks) (store : PlacedStore) (command : PlacedCommand) → IsPlaced store
     → IsTrue (is_allowed one store command) → HoldSame (Decides (after one store command)) one other

@@ -20,7 +20,7 @@ IsSealedFile file octets = IsSealable (stamp_of file.stamp) octets file.sum file
 abbrev pub sealed_octets : Option (List ℕ) → Table → SealedFile → List ℕ
 sealed_octets content table file = stamped (stamp_of file.stamp) (octets_on content table file.blocks)
 
--- what a file is as one with this seal, whose octets stand in this run of a table
+-- what a file is as one with this seal, whose octets are in this run of a table
 abbrev pub sealed_file : ℕ → SealMark → Placed → SealedFile
 sealed_file run mark file =
     record {
@@ -50,9 +50,9 @@ pub record IsSealedHeader (file octets : List ℕ) : Type 0 where
 abbrev pub HasRuns : Table → PlacedStore → Type 0
 HasRuns table store = table.runs ≡ runs_of store.entries
 
--- This is the sealed file of this number, as it is read of a table that has the store's runs: it stands there, its
--- header is no longer, its octets are those of a sealed file where the seals are kept, and what is given of it is what
--- the store's file is seen as.
+-- This is the sealed file of this number, as it is read of a table that has the store's runs: it is there, its header
+-- is no longer, its octets are those of a sealed file if the seals are kept, and what is given of it is what the
+-- store's file is seen as.
 pub record ReadsSealed (table : Table) (store : PlacedStore) (number : ℕ) (file : SealedFile) : Type 0 where
   pub stands : StandsIn table store.blocks file.blocks
   pub inside : file.header_len ≤ file.blocks.held

@@ -8,7 +8,7 @@ use Rattle.file_journal.specs.Layout.{Blocks}
 use Rattle.pfh_items.specs.Stamp.{StampValue, stamped}
 use Rattle.pfh_writer.specs.Given.{stamped_sum}
 
--- the 512 octets of a block; zeros behind what it holds
+-- the 512 octets of a block; zeros after what it holds
 abbrev pub whole_block : Blocks → ℕ → List ℕ
 whole_block held block = take 512 (held block ++ replicate 512 0)
 

@@ -29,7 +29,7 @@ FillBlocks low (entry ∷ entries) next =
     (low ≤ entry.number) × (entry.number < next) × FillsBlocks entry.holding entry.length
     × FillBlocks (entry.number + 1) entries next
 
--- What holds of each store of files that stand in blocks, and bounds its size.
+-- What is true of each store of files that are in blocks, and bounds its size.
 pub record IsSized (store : Store) : Type 0 where
   pub entries : FillBlocks 1 store.entries store.next
   pub next : 1 ≤ store.next

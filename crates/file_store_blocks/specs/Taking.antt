@@ -8,14 +8,14 @@ module _ {S T : Type 0} (took : S → T → List ℕ → Type 0) where
   abbrev pub IsFresh : T → Type 0
   IsFresh taker = (setting : S) × took setting taker []
 
-  -- it may take so many octets more
+  -- it may take this many octets more
   pub record HasRoomFor (taker : T) (more : ℕ) : Type 0 where
     pub setting : S
     pub fed : List ℕ
     pub has : took setting taker fed
     pub most : length fed + more ≤ longest_file
 
-  -- One that had taken nothing took so many octets: where the disk tells, the first of these.
+  -- One that had taken nothing took this many octets: if the disk's content is observed, the first of these.
   pub record TookFront (content : Option (List ℕ)) (octets : List ℕ) (count : ℕ) (old new : T) : Type 0 where
     pub fed : List ℕ
     pub size : length fed ≡ count

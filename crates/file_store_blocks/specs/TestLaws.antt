@@ -29,7 +29,7 @@ passed store number test ok = by (placed_of store number) refl ok
     by None is ok = absurd (cc)
     by (Some file) is ok = record { file = file; found = is; test_is = ok }
 
--- and a file that is found passes where its test says so
+-- and a file that is found passes if its test says so
 pub passes_found :
     (store : PlacedStore) (number : ℕ) (test : Placed → Bool) (file : Placed) → placed_of store number ≡ Some file
     → passes_at store number test ≡ test file
@@ -51,7 +51,7 @@ either : (a b : Bool) → IsTrue (a || b) → IsTrue a ⊎ IsTrue b
 either true b is = inl refl
 either false b is = inr is
 
--- the file is under way and has room for so many further octets, which fill a block or are all that it lacks
+-- the file is under way and has room for this many further octets, which fill a block or are all that it lacks
 pub record MayGrow (file : Placed) (used : ℕ) : Type 0 where
   pub partial : file.seal ≡ None
   pub room : file.held + used ≤ file.length
@@ -70,7 +70,7 @@ may_grow file used ok =
       ];
     }
 
--- so many octets are put in a block that is there and that no file has
+-- this many octets are put in a block that is there and that no file has
 pub record MayTake (store : PlacedStore) (block used : ℕ) : Type 0 where
   pub some : 1 ≤ used
   pub most : used ≤ 512
@@ -147,7 +147,7 @@ may_seal held file moment sum ok =
       sum_is = eqb-true _ _ tests.1;
     }
 
--- a file of this length may be begun, where so many entries stand, and so many blocks are taken of those there are
+-- a file of this length may be begun, if there are this many entries, and this many blocks are taken of those there are
 pub record MayCome (number next file_length count taken blocks : ℕ) : Type 0 where
   pub number_is : number ≡ next
   pub short : file_length ≤ longest_file

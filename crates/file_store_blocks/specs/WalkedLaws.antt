@@ -1,5 +1,5 @@
--- The records that make a store anew, read from nothing on, come to a store of which the same is kept, where its rules
--- and its seals are kept, and its numbers fit their octets.
+-- The records that rebuild a store, read from nothing on, give a store of which the same is kept, if its rules and its
+-- seals are kept, and its numbers fit their octets.
 use Rattle.std.proofs.Common.{◌≡◌, ◌⊎◌, ℕ, ◌+◌, ◌-◌, ◌*◌, ◌≤◌, ◌<◌, ◌==◌, min, Bool, cond, true, false}
 use Rattle.std.proofs.Common.{List, [], ◌∷◌, ◌++◌, length, map, Option, None, Some, refl, ap, ap₂, sym, ◌∙◌, subst}
 use Rattle.std.proofs.Common.{arith, inl, inr, nat_le, nat_lt, length-append, ◌||◌}
@@ -61,7 +61,7 @@ below_push :
 below_push number [] f below le = (omega arith, tt)
 below_push number (d ∷ ds) f below le = (omega (arith, below.0, le), below_push number ds f below.1 le)
 
--- what holds of each holds of the one in the middle
+-- what is true of each is true of the one in the middle
 all_middle :
     {A : Type 0} (P : A → Type 0) (front : List A) (x : A) (rest : List A) → AllByRecursion P (front ++ x ∷ rest) → P x
 all_middle P [] x rest all = all.0
@@ -69,7 +69,7 @@ all_middle P (y ∷ ys) x rest all = all_middle P ys x rest all.1
 
 -- ---- numbers that fit the octets of their records
 
--- what is written of a file beside its number and length
+-- what is written of a file other than its number and length
 pub record FitsOctets (file : Placed) : Type 0 where
   pub begun : IsNumber file.begun
   pub blocks : AllByRecursion IsNumber file.blocks
@@ -132,7 +132,7 @@ module _ (held : Blocks) (store : PlacedStore) (is : IsPlaced store) (keeps : Ke
   abbrev made : List Placed → ℕ → ReadStore
   made files least = record { store = placed_from files store.next store.blocks; least = least; first = false }
 
-  -- one file, behind those that were made
+  -- one file, after those that were made
   module _ (done : List Placed) (f : Placed) (fs : List Placed) (all : store.entries ≡ done ++ f ∷ fs)
       (below : Below f.number done) (under : f.number < store.next) where
     -- what came of it so far
@@ -206,7 +206,7 @@ module _ (held : Blocks) (store : PlacedStore) (is : IsPlaced store) (keeps : Ke
         (max-eq_left (omega (arith, under))))
         then
 
-    -- no file has the block yet that the file has behind these
+    -- no file has the block yet that the file has after these
     block_free :
         (front : List ℕ) (count block : ℕ) (rest : List ℕ) → f.blocks ≡ front ++ block ∷ rest
         → IsTrue (is_free (came front count).store block)
@@ -307,7 +307,7 @@ module _ (held : Blocks) (store : PlacedStore) (is : IsPlaced store) (keeps : Ke
         fills_last true b is_b = refl
         fills_last false b is_b = is_b
 
-    -- it is sealed, where it has a seal
+    -- it is sealed, if it has a seal
     seals :
         (now : ReadStore) → Walks (made (done ++ f ∷ []) (f.number + 1)) [] now
         → Walks (came f.blocks f.held) (seals_in f.number f.seal) now
@@ -380,7 +380,7 @@ module _ (held : Blocks) (store : PlacedStore) (is : IsPlaced store) (keeps : Ke
       below_weaker low high [] le b = tt
       below_weaker low high (d ∷ ds) le b = (omega (arith, le, b.0), below_weaker low high ds le b.1)
 
-  -- The records that make it anew do.
+  -- The records that rebuild it do.
   pub makes_anew :
       (now : ReadStore) × Takes (read_step held) (nothing_read store.blocks) (anew_records store) now
       × (now.store ≡ store)

@@ -1,4 +1,4 @@
-//! The records that make the entries anew.
+//! The records that rebuild the entries.
 
 ghost use Rattle.std.specs.Prelude.{◌≡◌, ◌+◌, ◌*◌, ◌^◌, ◌<◌, [], ◌∷◌, ◌-◌, min, None, IfSome};
 ghost use Rattle.std.specs.Option.{option_map};
@@ -18,9 +18,9 @@ use file_store_model::Info;
 const BLOCK: u32 = 512;
 
 impl Entries {
-    /// Writes the record at this place among those that make the entries anew, and moves the place on: its kind, with
-    /// the content in place of what `content` holds; `None` behind the last one. Entry 0 is which number is next, and
-    /// each other one is a file. Takes no memory.
+    /// Writes the record at this place among those that rebuild the entries, and moves the place on: its kind, with the
+    /// content in place of what `content` holds; `None` after the last one. Entry 0 is which number is next, and each
+    /// other one is a file. Takes no memory.
     pub(crate) fn next_anew(
         &self,
         place: &mut RecordPlace,
@@ -50,7 +50,7 @@ impl Entries {
         Some(command.write(content))
     }
 
-    /// The command of this number among those that make the file at this place anew, if there is one.
+    /// The command of this number among those that rebuild the file at this place, if there is one.
     fn command_at(&self, at: usize, part: u32) -> Option<PlacedCommand>
         ensures command { option_map placed_value result ≡ command_in (store_of self.now.files) at part }
         ensures writable { IfSome result (λ command. IsWritable (placed_value command)) }
@@ -82,7 +82,7 @@ impl Entries {
     }
 }
 
-/// The Begin of a file of which this is told.
+/// The Begin of a file about which this is reported.
 fn begin_of(info: Info) -> PlacedCommand
     ensures command { placed_value result ≡ begin info.number info.caller info.length info.begun }
     ensures writable { IsWritable (placed_value result) }
@@ -95,7 +95,7 @@ fn begin_of(info: Info) -> PlacedCommand
     }
 }
 
-/// The Grow of a file of which this is told, for its block at this place.
+/// The Grow of a file about which this is reported, for its block at this place.
 fn grow_of(info: Info, block: u32, place: usize) -> PlacedCommand
     requires { 512 * place < info.held }
     ensures command { placed_value result ≡ grow info.number block (min 512 (info.held - 512 * place)) }

@@ -191,7 +191,7 @@ impl Entries {
         1 <= used && used <= 512 && self.is_free(block) && self.has_room(number, used)
     }
 
-    /// Whether the file of this number is under way, and has room for so many further octets in one block.
+    /// Whether the file of this number is under way, and has room for this number of further octets in one block.
     fn has_room(&self, number: FileNumber, used: u16) -> bool
         ensures { result ≡ passes_at (store_of self.now.files) number (λ f. can_grow f used) }
     {
@@ -222,7 +222,7 @@ impl Entries {
     }
 }
 
-/// The length of a header, where it has this sum.
+/// The length of a header, if it has this sum.
 fn of_sum(header: CheckedHeader, sum: u16) -> Option<u16>
     ensures sum { is_some result ≡ (sum == header.sum) }
     ensures len { IfSome result (λ len. len ≡ header.len) }
@@ -234,7 +234,8 @@ fn of_sum(header: CheckedHeader, sum: u16) -> Option<u16>
     }
 }
 
-/// Whether a file of which this is told is under way, and has room for so many further octets in one block.
+/// Whether a file about which this is reported is under way, and has room for this number of further octets in one
+/// block.
 fn has_room_for(info: &Info, used: u16) -> bool
     ensures { (file : Placed) → info.now ≡ placed_info file → result ≡ can_grow file used }
 {

@@ -1,7 +1,7 @@
 //! Which blocks of a store its files take.
 //!
-//! The octets of a store's files stand in blocks of 512 octets on a disk. Each file has a run of blocks: the numbers of
-//! the blocks that its octets stand in, in their order. This is the table of these runs, in memory.
+//! The octets of a store's files are in blocks of 512 octets on a disk. Each file has a run of blocks: the numbers of
+//! the blocks that its octets are in, in their order. This is the table of these runs, in memory.
 
 pub mod laws;
 mod marks;

@@ -11,7 +11,7 @@ use crate::writing::{put_begin, put_drop, put_grow, put_seal};
 use file_journal::RecordContent;
 use px_base::{Call, FileNumber, Moment};
 
-/// A command that changes which files there are, and in which blocks their octets stand.
+/// A command that changes which files there are, and in which blocks their octets are.
 #[derive(Clone, Copy, Debug)]
 pub enum PlacedCommand {
     /// A file is begun.
@@ -29,7 +29,7 @@ pub enum PlacedCommand {
     Grow {
         /// The file's number.
         number: FileNumber,
-        /// The block at whose front they stand.
+        /// The block at the beginning of which they are.
         block: u32,
         /// How many they are.
         used: u16,
@@ -51,8 +51,8 @@ pub enum PlacedCommand {
 }
 
 impl PlacedCommand {
-    /// The command that a record of this kind and content is; `None` exactly where the content hasn't the kind's
-    /// length, its call is none, or there is no such kind. Takes no memory.
+    /// The command that a record of this kind and content is; `None` exactly when the content hasn't the kind's length,
+    /// its call is none, or there is no such kind. Takes no memory.
     pub fn read(kind: u8, content: &[u8]) -> Option<PlacedCommand>
         ensures command { option_map placed_value result ≡ placed_in (record_of kind content.now) }
         ensures writable { IfSome result (λ command. IsWritable (placed_value command)) }

@@ -1,4 +1,4 @@
-//! The entries of a store whose octets stand in blocks, and what the commands do to them.
+//! The entries of a store whose octets are in blocks, and what the commands do to them.
 
 ghost use Rattle.std.specs.Prelude.{◌≡◌, ◌↔◌, ℕ, ◌≤◌, [], find, slice_get, false, None, Some, IsSome, IsTrue, IfSome};
 ghost use Rattle.std.specs.Prelude.{IfNone};
@@ -73,8 +73,8 @@ impl Model for Entries {
 }
 
 impl Entries {
-    /// No entries, of so many blocks. Takes memory, all that the entries ever do: 3 octets for each block, and some 600
-    /// for each of the 1,024 entries that there may be.
+    /// No entries, of `blocks` blocks. Takes memory, all that the entries ever do: 3 octets for each block, and some
+    /// 600 for each of the 1,024 entries that there may be.
     pub fn new(alloc: Global, blocks: u32) -> Result<Entries, OutOfMemory>
         requires some { 1 ≤ blocks }
         requires most { blocks ≤ 65536 }
@@ -102,7 +102,7 @@ impl Entries {
         FileNumber::new(self.next)
     }
 
-    /// Why a file of this length can't be begun; `None` where it may be. Takes no memory.
+    /// Why a file of this length can't be begun; `None` if it may be. Takes no memory.
     pub fn begin_bar(&self, length: u32) -> Option<BeginBar>
         ensures some { (held : Blocks) → IfSome result (λ bar. Bars bar (seen held (store_of self.now.files)) length) }
         ensures none { (held : Blocks) → IfNone result (MayBegin (seen held (store_of self.now.files)) length) }
@@ -110,7 +110,7 @@ impl Entries {
         self.begin_bar_as(FileNumber::new(self.next), length)
     }
 
-    /// Why a file of this length can't be begun where this were the next number.
+    /// Why a file of this length can't be begun if this were the next number.
     pub(crate) fn begin_bar_as(&self, number: FileNumber, length: u32) -> Option<BeginBar>
         ensures some { (held : Blocks)
             → IfSome result (λ bar. Bars bar (seen held (with_next number (store_of self.now.files))) length) }
@@ -168,7 +168,7 @@ impl Entries {
         self.least <= number.get() && number.get() <= self.next
     }
 
-    /// The next number becomes this one, where no record was read yet and a file may have it: whether it did.
+    /// The next number becomes this one, if no record was read yet and a file may have it: whether it did.
     pub(crate) fn take_next(&mut self, number: FileNumber) -> bool
         requires rules { IsReadStore (read_of self.old) }
         ensures next { TakesNext result self.old self.new number }
@@ -208,7 +208,7 @@ impl Entries {
         }
     }
 
-    /// Octets come of the upload of this entry that is out, behind those that wait: with these at most 512. Takes no
+    /// Octets come of the upload of this entry that is out, after those that wait: with these at most 512. Takes no
     /// memory. The work is that of the octets that come, and of finding the entry.
     pub fn bring(&mut self, number: FileNumber, bytes: &[u8])
         requires out { IsOut self.old.files number }
@@ -317,7 +317,7 @@ impl Entries {
         check_file(reader, disk, &self.table, blocks, stamp)
     }
 
-    /// Fills the room with the octets of a sealed file, with its stamp, from octet `offset` on. Behind the header it
+    /// Fills the room with the octets of a sealed file, with its stamp, from octet `offset` on. After the header it
     /// reads the octets that it gives and no others, with one read for each block; in the header those before them too.
     /// It changes none. Takes no memory.
     pub fn read_sealed<D: Disk, R: BlockReader<D>>(
@@ -345,8 +345,8 @@ impl Entries {
         read_stamped(reader, disk, &self.table, &file, offset, room)
     }
 
-    /// Puts the header of a sealed file, with its stamp, into `header`, in the place of what stands there; it has room
-    /// for the longest one. It reads the header's octets once, with one read for each block. Takes no memory.
+    /// Puts the header of a sealed file, with its stamp, into `header`, in place of what it holds; it has room for the
+    /// longest one. It reads the header's octets once, with one read for each block. Takes no memory.
     ///
     /// After an error `header` holds any octets, or none.
     pub fn read_header<D: Disk, R: BlockReader<D>>(
@@ -396,7 +396,7 @@ impl Entries {
         }
     }
 
-    /// The octets that wait of the upload of this number, at most 512; none where none is out. Takes no memory.
+    /// The octets that wait of the upload of this number, at most 512; none if none is out. Takes no memory.
     pub fn waiting(&self, number: FileNumber) -> &[u8]
         ensures octets { result.now ≡ octets_or_none (rest_of self.now.files number) }
         ensures most { length result.now ≤ 512 }
@@ -407,7 +407,7 @@ impl Entries {
         }
     }
 
-    /// What the store tells of the entry of this number, or `None` exactly where there is none. Takes no memory.
+    /// What the store reports about the entry of this number, or `None` exactly when there is none. Takes no memory.
     pub fn info(&self, number: FileNumber) -> Option<Info>
         ensures info { result ≡ option_map placed_info (placed_of (store_of self.now.files) number) }
         ensures rules { IsPlaced (store_of self.now.files) }
@@ -418,7 +418,7 @@ impl Entries {
         }
     }
 
-    /// The least number above this one of a complete file, or `None` exactly where there is none. Takes no memory.
+    /// The least number above this one of a complete file, or `None` exactly when there is none. Takes no memory.
     pub fn next_complete(&self, above: FileNumber) -> Option<FileNumber>
         ensures { IsNextSealed (store_of self.now.files) above result }
     {
@@ -428,7 +428,7 @@ impl Entries {
         first_complete(&self.files[place..])
     }
 
-    /// What the store tells of the entry at this place, if there is one.
+    /// What the store reports about the entry at this place, if there is one.
     pub(crate) fn info_at(&self, at: usize) -> Option<Info>
         ensures rules { IsPlaced (store_of self.now.files) }
         ensures info { result ≡ option_map placed_info (slice_get (store_of self.now.files).entries at) }
@@ -466,7 +466,7 @@ impl Entries {
         self.files[at].mark()
     }
 
-    /// The sealed file of this number, as it is read of a table of the runs in which the files stand.
+    /// The sealed file of this number, as it is read of a table of the runs in which the files are.
     fn sealed_file(&self, number: FileNumber) -> SealedFile
         requires { Sealed (store_of self.now.files) number }
         ensures { (table : Table) → HasRuns table (store_of self.now.files)

@@ -1,4 +1,4 @@
-//! The octets of a file, read from the blocks in which they stand.
+//! The octets of a file, read from the blocks in which they are.
 
 ghost use Rattle.std.specs.Prelude.{◌≡◌, ◌+◌, ◌%◌, ◌<◌, ◌≤◌, length, IsErr, OnOk};
 ghost use Rattle.file_store_blocks.specs.Reading.{StandsIn, octets_on};
@@ -12,7 +12,7 @@ use disk_model::{Disk, DiskFault};
 /// The number of octets of a block.
 const BLOCK: u32 = 512;
 
-/// Where the octets of a file stand: in its run of a table of blocks, from the front of each block on.
+/// Where the octets of a file are: in its run of a table of blocks, from the beginning of each block on.
 #[derive(Clone, Copy, Debug, PartialEq, Eq)]
 pub struct FileBlocks {
     /// The place of the run in the table.
@@ -49,7 +49,7 @@ pub fn read_octets<D: Disk, R: BlockReader<D>>(
     Ok(())
 }
 
-/// How many of so many octets, from this place of a file on, stand in one block.
+/// How many of `count` octets, from this place of a file on, are in one block.
 pub(crate) fn part_len(at: u32, count: usize) -> usize
     requires { 0 < count }
     ensures some { 0 < result }
@@ -59,7 +59,7 @@ pub(crate) fn part_len(at: u32, count: usize) -> usize
     count.min((BLOCK - at % BLOCK) as usize)
 }
 
-/// Fills the room with the octets of a file from this place on, which stand in one block.
+/// Fills the room with the octets of a file from this place on, which are in one block.
 pub(crate) fn read_part<D: Disk, R: BlockReader<D>>(
     reader: &R,
     disk: &mut D,

@@ -15,7 +15,7 @@ use px_base::{Call, FileNumber, Moment};
 pub struct CheckedHeader {
     /// The sum that it has with the stamp.
     pub sum: u16,
-    /// Its length in octets, which stands in two octets of it (PFH 1990, body_offset).
+    /// Its length in octets, which is in two octets of it (PFH 1990, body_offset).
     pub len: u16,
 }
 
@@ -24,7 +24,7 @@ pub struct CheckedHeader {
 #[derive(Debug, Drop)]
 pub(crate) struct FileCheck {
     checker: Checker,
-    /// It puts zeros in the place of the header's sum, which is taken so.
+    /// It puts zeros in place of the header's sum, which is taken so.
     stamper: Stamper,
     /// The sum of all octets that the stamper gave.
     sum: u16,
@@ -44,7 +44,7 @@ impl FileCheck {
         }
     }
 
-    /// Takes the next octets of the file, at most 4,194,304 in all; others may stand in their place then. It costs the
+    /// Takes the next octets of the file, at most 4,194,304 in all; others may be in their place then. It costs the
     /// octets that it gets. Takes no memory.
     pub(crate) fn feed(&mut self, piece: &mut [u8])
         requires { fed_len self.old.checker + length piece.old ≤ 4194304 }

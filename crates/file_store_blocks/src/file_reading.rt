@@ -48,7 +48,7 @@ pub fn check_file<D: Disk, R: BlockReader<D>>(
     }
 }
 
-/// Fills the room with the octets of a sealed file, with its stamp, from octet `offset` on. Behind the header it reads
+/// Fills the room with the octets of a sealed file, with its stamp, from octet `offset` on. After the header it reads
 /// the octets that it gives and no others, with one read for each block; in the header those before them too, into one
 /// buffer of 512 octets. It changes none. Takes no memory.
 pub fn read_stamped<D: Disk, R: BlockReader<D>>(
@@ -76,7 +76,7 @@ pub fn read_stamped<D: Disk, R: BlockReader<D>>(
     }
 }
 
-/// The same behind the header, whose octets alone the stamp changes.
+/// The same after the header, whose octets alone the stamp changes.
 fn read_behind_header<D: Disk, R: BlockReader<D>>(
     reader: &R,
     disk: &mut D,
@@ -127,7 +127,7 @@ fn read_through_header<D: Disk, R: BlockReader<D>>(
     Ok(())
 }
 
-/// Tells contracts that a call is one. It does nothing.
+/// Shows contracts that a call is one. It does nothing.
 pub(crate) fn is_call(_by: Call)
     ensures { IsCall _by }
 {}

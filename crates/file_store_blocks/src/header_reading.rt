@@ -11,8 +11,8 @@ use crate::file_reading::is_call;
 use crate::{BlockReader, SealedFile, read_stamped};
 use disk_model::{Disk, DiskFault};
 
-/// Puts the header of a sealed file, with its stamp, into `header`, in the place of what stands there; it has room for
-/// the longest one. It reads the header's octets once, with one read for each block. Takes no memory.
+/// Puts the header of a sealed file, with its stamp, into `header`, in place of what it holds; it has room for the
+/// longest one. It reads the header's octets once, with one read for each block. Takes no memory.
 ///
 /// After an error `header` holds any octets, or none.
 pub fn read_header<D: Disk, R: BlockReader<D>>(

@@ -20,12 +20,12 @@ pub fn seen_law()
     ensures { SeenLaw }
 {}
 
-/// Where the seals are kept, what is seen keeps the rules of a store.
+/// If the seals are kept, what is seen keeps the rules of a store.
 pub fn store_law()
     ensures { StoreLaw }
 {}
 
-/// A record is read as a command exactly where it is that command's record, and each command that can be written has
+/// A record is read as a command exactly when it is that command's record, and each command that can be written has
 /// one.
 pub fn records_law()
     ensures { RecordsLaw }

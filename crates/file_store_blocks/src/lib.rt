@@ -1,7 +1,7 @@
-//! The entries of a store of files whose octets stand in blocks of a disk.
+//! The entries of a store of files whose octets are in blocks of a disk.
 //!
-//! What a store is, and what the commands do to it, is `file_store_model`'. Here is how it stands on a disk: each
-//! record of the journal says of which file it is and in which block further octets stand, and the blocks hold the
+//! What a store is, and what the commands do to it, is `file_store_model`'. Here is how it is kept on a disk: each
+//! record of the journal says of which file it is and in which block further octets are, and the blocks hold the
 //! octets.
 #![tactic(auto)]
 

@@ -22,7 +22,7 @@ pub(crate) trait PieceTaker {
     /// It was made for this, and took these octets.
     ghost took: { Setting → Self → List ℕ → Type 0 };
 
-    /// Takes the next octets of the file; others may stand in their place then. Takes no memory.
+    /// Takes the next octets of the file; others may be in their place then. Takes no memory.
     fn take_piece(&mut self, piece: &mut [u8])
         requires { HasRoomFor took self.old (length piece.old) }
         ensures { (setting : Setting) (fed : List ℕ) → took setting self.old fed

@@ -9,9 +9,9 @@ ghost use Rattle.file_journal.specs.Steps.{kept_by};
 use disk_model::{Disk, DiskFault};
 use file_journal::{Journal, Kept, Ledger};
 
-/// What reads the blocks of a disk of this kind, whoever holds the journal behind them.
+/// What reads the blocks of a disk of this kind, whoever holds the journal after them.
 pub trait BlockReader<D: Disk> {
-    /// Its blocks stand on this disk, and may be read.
+    /// Its blocks are on this disk, and may be read.
     ghost may_read: { Self → D → Type 0 };
 
     /// How many blocks there are.

@@ -26,7 +26,7 @@ pub(crate) enum Recorded {
 }
 
 impl Recorded {
-    /// What a record of this kind and content says; `None` exactly where the content hasn't the kind's length, its call
+    /// What a record of this kind and content says; `None` exactly when the content hasn't the kind's length, its call
     /// is none, or there is no such kind.
     pub(crate) fn read(kind: u8, content: &[u8]) -> Option<Recorded>
         ensures recorded { option_map recorded_value result ≡ recorded_in (record_of kind content.now) }

@@ -6,7 +6,7 @@ use crate::{FileBlocks, Stamp};
 /// stamp.
 #[derive(Clone, Copy, Debug, PartialEq, Eq)]
 pub struct SealedFile {
-    /// Where its octets stand.
+    /// Where its octets are.
     pub blocks: FileBlocks,
     /// What it is stamped with.
     pub stamp: Stamp,

@@ -1,4 +1,4 @@
-//! A file of the store, without the blocks that its octets stand in.
+//! A file of the store, without the blocks that its octets are in.
 
 ghost use Rattle.std.specs.Prelude.{◌≡◌, ◌+◌, ◌≤◌, ◌^◌, ◌<◌, length, [], Some, None, is_some, IsSome};
 ghost use Rattle.file_store_blocks.specs.Placed.{is_sealed, new_placed};
@@ -102,7 +102,7 @@ impl StoredFile {
         self.mark
     }
 
-    /// What it is as a file with this seal, whose octets stand in this run of a table.
+    /// What it is as a file with this seal, whose octets are in this run of a table.
     pub(crate) fn sealed_in(&self, run: usize, mark: SealMark) -> SealedFile
         ensures { result ≡ sealed_file run mark self.now.entry }
     {
@@ -128,7 +128,7 @@ impl StoredFile {
         self.out
     }
 
-    /// The octets that came of the upload that is out and aren't held yet; none where none is out.
+    /// The octets that came of the upload that is out and aren't held yet; none if none is out.
     pub(crate) fn rest(&self) -> &[u8]
         ensures octets { result.now ≡ octets_or_none self.now.rest }
         ensures most { length result.now ≤ 512 }
@@ -140,7 +140,7 @@ impl StoredFile {
         }
     }
 
-    /// What the store tells of the file.
+    /// What the store reports about the file.
     pub(crate) fn info(&self) -> Info
         ensures { result ≡ placed_info self.now.entry }
     {
@@ -170,7 +170,7 @@ impl StoredFile {
         self.out = false;
     }
 
-    /// Octets come of the upload that is out, behind those that wait.
+    /// Octets come of the upload that is out, after those that wait.
     pub(crate) fn bring(&mut self, bytes: &[u8])
         requires out { IsSome self.old.rest }
         requires room { length (octets_or_none self.old.rest) + length bytes.now ≤ 512 }
@@ -179,7 +179,7 @@ impl StoredFile {
         self.waiting.put(bytes);
     }
 
-    /// The octets that wait of the upload that is out, so many, become held.
+    /// The octets that wait of the upload that is out, `count` of them, become held.
     pub(crate) fn hold(&mut self, count: usize)
         requires out { IsSome self.old.rest }
         requires all { length (octets_or_none self.old.rest) ≡ count }
@@ -193,7 +193,7 @@ impl StoredFile {
         self.held += count as u32;
     }
 
-    /// So many further octets are held, of a file of which no upload is out.
+    /// `used` further octets are held, of a file of which no upload is out.
     pub(crate) fn grow(&mut self, used: u16)
         requires in_ { self.old.rest ≡ None }
         requires fits { self.old.entry.held + used < 2 ^ 32 }

@@ -6,7 +6,7 @@ use Rattle.file_store_model.specs.Kept.{KeepsComplete}
 use Rattle.file_store_model.proofs.Names.{find, IsTrue, is_none, fault_code, StampValue, option_or, nat_tests, length-map, sum_by_push, CallSign, IsCall, Command, begin, grow, seal, drop_entry, can_take, has_room, is_good, is_partial, passes, is_allowed, grown, kept_with, sealed, stamp_of, with_more, changed, with_holding, after, after_all, AreAllowed, HasCall, HaveCalls, is_complete, IsStore, FitsLength, longest_file, most_entries, Entry, Holding, partial, complete, Store, entry_of, blocks_for, blocks_of, new_entry, length-stamped}
 use Rattle.file_store_model.proofs.EntriesLemmas.{has_number, AreEntries-push, AreEntries-map-changed, AreEntries-filter, HaveCallers-push, HaveCallers-map-changed, HaveCallers-filter, found-caller, found-fits, blocks-map-changed, find-map-changed_other, find-filter_other}
 
--- ---- what a test tells
+-- ---- what a test says
 
 pub and-parts : (a b : Bool) → IsTrue (a && b) → IsTrue a × IsTrue b
 and-parts true true h = (refl, refl)
@@ -157,7 +157,7 @@ or-none : (o : Option Entry) → option_or o None ≡ o
 or-none None = refl
 or-none (Some e) = refl
 
--- the entry of another number is as it was, where there is one
+-- the entry of another number is as it was, if there is one
 pub after-same : (store : Store) (command : Command) (other : ℕ) → other ≢ number_of command → entry_of (after store command) other ≡ entry_of store other
 after-same store (begin number caller file_length moment) other ne =
     let different : (number == other) ≡ false = grind (arith, nat_tests) in

@@ -39,7 +39,7 @@ pub find_past : (number low next : ℕ) (entries : List Entry) → AreEntries lo
 find_past number low next [] are past = refl
 find_past number low next (x ∷ xs) are past = grind (arith, nat_tests, find_past number (x.number + 1) next xs are.4 past)
 
--- what holds of an entry that is found
+-- what is true of an entry that is found
 pub found-fits : (number low next : ℕ) (entries : List Entry) (e : Entry) → AreEntries low entries next → find (has_number number) entries ≡ Some e
     → FitsLength e.holding e.length × (e.length ≤ longest_file) × (number < next)
 found-fits number low next [] e are found = absurd (cc)

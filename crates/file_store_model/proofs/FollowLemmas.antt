@@ -1,4 +1,4 @@
--- What holds of a store that follows another.
+-- What is true of a store that follows another.
 use Rattle.std.proofs.Common.{◌≡◌, ℕ, ◌≤◌, ◌<◌, not, List, [], ◌∷◌, ◌++◌, length, filter, refl, ap, sym, ◌∙◌, subst, arith, Option, None, Some, inl, inr, ◌==◌, length-append, take}
 use Rattle.std.specs.List.{AllByRecursion}
 use Rattle.std.proofs.lemmas.Option.{same_Some}

@@ -73,7 +73,7 @@ AreAllowed-first = allowed_first after IsAllowed
 pub both-true : (a b : Bool) → IsTrue a → IsTrue b → IsTrue (a && b)
 both-true a b p q = rw (p, q) refl
 
--- so many further octets fit, and fill a block or are all that is lacking
+-- this number of further octets fits, and fills a block or is all that is lacking
 pub partial-takes : (held : List ℕ) (l n : ℕ) → length held + n ≤ l → (n ≡ 512) ⊎ (length held + n ≡ l) → IsTrue (can_take (partial held) l n)
 partial-takes held l n le fills = both-true (nat_le (length held + n) l) ((n == 512) || (length held + n == l)) (le-leb _ _ le) (either fills)
   where

@@ -22,7 +22,7 @@ pub faultless-code : (items : List ItemValue) (body file : List ℕ) → fault_c
 faultless-code items body file none is =
     faultless items body file is (sym (first_fault-text items body file is) ∙ no_fault-code file none)
 
--- ---- the length of a header stands in two octets
+-- ---- the length of a header is in two octets
 
 AreItems-with : (id : ℕ) (items : List ItemValue) → AreItems items → AreItems (items_with id items)
 AreItems-with id [] are = tt

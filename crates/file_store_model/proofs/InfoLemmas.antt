@@ -1,9 +1,9 @@
--- What is told of an entry, and the tests of it.
+-- What is reported about an entry, and the tests of it.
 use Rattle.std.proofs.Common.{◌≡◌, ℕ, ◌≤◌, length, refl, sym, subst, arith, Option, None, Some}
 use Rattle.file_store_model.proofs.Names.{option_map, Info, info_of, FitsLength, IsStore, Entry, Holding, Store, complete, partial, entry_of, octets_of}
 use Rattle.file_store_model.proofs.EntriesLemmas.{found-fits}
 
--- what is told of an entry that holds no more than its file has
+-- what is reported about an entry that holds no more than its file has
 pub record Told (store : Store) (number : ℕ) (info : Info) : Type 0 where
   pub entry : Entry
   pub found : entry_of store number ≡ Some entry

@@ -1,4 +1,4 @@
--- What two stores that are like each other but for the octets have in common.
+-- What two stores that are like each other except for the octets have in common.
 use Rattle.std.proofs.Common.{◌≡◌, ℕ, ◌+◌, ◌-◌, ◌==◌, ◌&&◌, Bool, true, false, nat_le, nat_lt, List, [], ◌∷◌, length, Option, None, Some, refl, ap, ap₂, sym, ◌∙◌, subst, arith, inl, inr}
 use Rattle.file_store_model.specs.Like.{AreLike, IsAsFar, IsEntryLike, IsStoreLike}
 use Rattle.file_store_model.specs.Bars.{Bars}
@@ -42,7 +42,7 @@ far_whole octets moment one other is far = by other (subst (λ (h : Holding). Is
 
 -- ---- an entry
 
--- what is told of an entry, by its parts
+-- what is reported about an entry, by its parts
 abbrev info_from : ℕ → CallSign → ℕ → ℕ → Bool → ℕ → Info
 info_from number caller file_length held whole begun =
     record { number = number; caller = caller; length = file_length; held = held; complete = whole; begun = begun }
@@ -84,7 +84,7 @@ module _ (one other : Entry) (like : IsEntryLike one other) where
     holding = far_back one.holding other.holding like.holding;
   }
 
-  -- the same is told of both
+  -- the same is reported about both
   pub like_info : info_of one ≡ info_of other
   like_info = info_is one other like_octets_length like_is_complete like
 
@@ -131,7 +131,8 @@ rooms_like (x ∷ xs) [] like = absurd like
 rooms_like (x ∷ xs) (o ∷ os) like =
     omega (arith, sum_by-cons room_in x xs, sum_by-cons room_in o os, rooms_like xs os like.1, ap blocks_for like.0.length)
 
--- whether a file of this length can be begun, where so many entries stand and so many blocks are taken of those there are
+-- whether a file of this length can be begun, if there are this many entries, and this many blocks are taken of those
+-- there are
 abbrev begin_test : ℕ → ℕ → ℕ → ℕ → ℕ → Bool
 begin_test file_length count next taken blocks =
     nat_le file_length longest_file && nat_lt count most_entries && nat_lt next last_next && nat_le (taken + blocks_for file_length) blocks

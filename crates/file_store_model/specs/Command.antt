@@ -21,7 +21,7 @@ pub data Command : Type 0 where
   -- the file is given up
   drop_entry : ℕ → Command
 
--- the caller that the command names is a call, where it names one
+-- the caller that the command names is a call, if it names one
 abbrev pub HasCall : Command → Type 0
 HasCall (begin number caller file_length moment) = IsCall caller
 HasCall (grow number octets) = ⊤
@@ -56,7 +56,7 @@ pub record MayBegin (store : Store) (file_length : ℕ) : Type 0 where
   pub left : store.next < last_next
   pub room : blocks_for file_length ≤ free_blocks store
 
--- whether so many further octets fit a file of this length that has come so far
+-- whether this number of further octets fits a file of this length that has come so far
 abbrev pub has_room : Holding → ℕ → ℕ → Bool
 has_room (partial held) file_length more = nat_le (length held + more) file_length
 has_room (complete octets moment) file_length more = false
@@ -162,7 +162,7 @@ whole_grows number octets = grows number (length octets / 512) octets
 abbrev pub unfilled_block : List ℕ → List ℕ
 unfilled_block octets = drop (512 * (length octets / 512)) octets
 
--- the last grow, of the octets that are left, where there are any
+-- the last grow, of the octets that are left, if there are any
 abbrev pub last_grow : ℕ → List ℕ → List Command
 last_grow number [] = []
 last_grow number (octet ∷ octets) = grow number (octet ∷ octets) ∷ []

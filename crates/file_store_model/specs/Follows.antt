@@ -16,7 +16,7 @@ pub record Follows (before now : Store) : Type 0 where
   pub calls : HaveCalls commands
   pub does : DoesAll before now commands
 
--- the entry of this number, where there is one, is the caller's
+-- the entry of this number, if there is one, is the caller's
 abbrev pub IsOwnEntry : CallSign → Store → ℕ → Type 0
 IsOwnEntry caller store number = (entry : Entry) → entry_of store number ≡ Some entry → entry.caller ≡ caller
 
@@ -42,8 +42,8 @@ pub record Continues (old new : Entry) : Type 0 where
   pub same : new ≡ record old { holding = new.holding }
   pub longer : length (octets_of old.holding) ≤ length (octets_of new.holding)
 
--- The rules of a store hold still. A complete entry is as it was, an entry that stands is of the same file and holds no
--- fewer octets, a number that was given and has no entry gets none again, and the next number is no lower.
+-- The rules of a store still hold. A complete entry is as it was, an entry that is still there is of the same file and
+-- holds no fewer octets, a number that was given and has no entry gets none again, and the next number is no lower.
 pub record KeepsEntries (before now : Store) : Type 0 where
   pub rules : IsStore now
   pub complete : KeepsComplete before now
@@ -75,9 +75,9 @@ BringsOctets (grow number octets) = IsOctets octets
 BringsOctets (seal number moment) = ⊤
 BringsOctets (drop_entry number) = ⊤
 
--- What holds of each store that follows another: of its entries, by commands of one caller of those of the others, and
--- by octets alone of what is held. A store follows another by way of a third one, and so does that after the first of
--- the commands.
+-- What is true of each store that follows another: of its entries, by commands of one caller of those of the others,
+-- and by octets alone of what is held. A store follows another by way of a third one, and so does that after the first
+-- of the commands.
 pub record FollowsLaw : Type 0 where
   pub entries : (before now : Store) → IsStore before → Follows before now → KeepsEntries before now
   pub others :

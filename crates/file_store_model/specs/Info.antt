@@ -1,4 +1,4 @@
--- What a store tells of an entry.
+-- What a store reports about an entry.
 use Rattle.std.specs.Prelude.{◌≡◌, ℕ, ◌≤◌, ◌<◌, length, Bool, true, false, Option, None, Some, IsTrue}
 use Rattle.file_store_model.specs.declared.info.Info.{Info}
 use Rattle.file_store_model.specs.Store.{Entry, Holding, partial, complete, Store, entry_of, octets_of}

@@ -1,11 +1,11 @@
--- What holds of each store that the commands make.
+-- What is true of each store that the commands make.
 use Rattle.std.specs.Prelude.{◌≡◌, ℕ, ◌+◌, ◌≤◌, ◌<◌, List, [], ◌∷◌, length, ⊤}
 use Rattle.std.specs.List.{AllByRecursion}
 use Rattle.px_base.specs.CallSign.{IsCall}
 use Rattle.file_store_model.specs.Limits.{longest_file, most_entries}
 use Rattle.file_store_model.specs.Store.{Entry, Holding, partial, complete, Store, blocks_of}
 
--- so many octets as the file has, where it is complete, and no more before
+-- as many octets as the file has, if it is complete, and no more before
 abbrev pub FitsLength : Holding → ℕ → Type 0
 FitsLength (partial held) file_length = length held ≤ file_length
 FitsLength (complete octets moment) file_length = length octets ≡ file_length

@@ -5,10 +5,9 @@ use Rattle.file_store_model.specs.IsStore.{IsStore}
 use Rattle.file_store_model.specs.Kept.{KeepsComplete}
 use Rattle.file_store_model.specs.Store.{Store, empty_store, entry_of}
 
--- An empty store keeps the rules of a store, and so does each command, where the caller that it names is a call: the
+-- An empty store keeps the rules of a store, and so does each command, if the caller that it names is a call: the
 -- numbers rise and are below the next one, no entry holds more than its file has, a complete one as much, and no more
--- entries and blocks are taken than may be.
--- No command changes a complete entry, and the next number never falls.
+-- entries and blocks are taken than may be. No command changes a complete entry, and the next number never falls.
 abbrev pub CommandsLaw : Type 0
 CommandsLaw =
     ((blocks : ℕ) → 1 ≤ blocks → blocks ≤ 65536 → IsStore (empty_store blocks))

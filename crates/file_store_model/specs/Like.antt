@@ -1,4 +1,4 @@
--- Stores that are like each other but for the octets of their files.
+-- Stores that are like each other except for the octets of their files.
 use Rattle.std.specs.Prelude.{◌≡◌, List, [], ◌∷◌, length, ⊤}
 use Rattle.file_store_model.specs.Store.{Entry, Holding, Store, complete, partial}
 
@@ -9,7 +9,7 @@ IsAsFar (partial one) (complete other moment) = ⊥
 IsAsFar (complete one moment) (partial other) = ⊥
 IsAsFar (complete one moment) (complete other then) = (length one ≡ length other) × (moment ≡ then)
 
--- The one entry is the other, but for its octets, which are as many.
+-- The one entry is the other, except for its octets, which are as many.
 pub record IsEntryLike (one other : Entry) : Type 0 where
   pub number : one.number ≡ other.number
   pub caller : one.caller ≡ other.caller
@@ -24,7 +24,7 @@ AreLike [] (other ∷ others) = ⊥
 AreLike (one ∷ ones) [] = ⊥
 AreLike (one ∷ ones) (other ∷ others) = IsEntryLike one other × AreLike ones others
 
--- The one store is the other, but for the octets of its entries, which are as many.
+-- The one store is the other, except for the octets of its entries, which are as many.
 pub record IsStoreLike (one other : Store) : Type 0 where
   pub entries : AreLike one.entries other.entries
   pub next : one.next ≡ other.next

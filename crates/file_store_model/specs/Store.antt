@@ -53,7 +53,7 @@ blocks_for file_length = (file_length + 511) / 512
 abbrev pub blocks_of : Store → ℕ
 blocks_of store = sum_by (λ e. blocks_for e.length) store.entries
 
--- how many entries stand
+-- how many entries there are
 abbrev pub entry_count : Store → ℕ
 entry_count store = length store.entries
 

@@ -5,7 +5,7 @@
 pub enum BeginBar {
     /// The length is above 4,194,304 octets.
     TooLong,
-    /// 1,024 entries stand.
+    /// There are 1,024 entries.
     TooMany,
     /// The next number is 4,294,967,295, and so no number is left.
     NumbersGone,

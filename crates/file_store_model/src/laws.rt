@@ -14,7 +14,7 @@ pub fn numbers_law()
     ensures { NumbersLaw }
 {}
 
-/// Commands keep complete entries, take no octets from an entry that stands, and give no number twice. Those of one
+/// Commands keep complete entries, take no octets from an entry that is there, and give no number twice. Those of one
 /// caller leave the entries of all others as they are. Octets stay octets, and complete files keep the rules of file
 /// headers.
 pub fn follows_law()

@@ -18,7 +18,7 @@ pub sends-cases : (w : Window) (P : Place → Slot → Type 0) → ((d : Connect
 sends-cases w P talks silent leaves p s sends = grind (arith, common_steps)
 
 module _ (P : Place → Slot → Type 0) where
-  -- what holds of none, and of a pair and others where it holds of the others, holds of all
+  -- what is true of none, and of a pair and others if it is true of the others, is true of all
   pub by-pairs : (R : List Place → List Slot → Type 0) → R [] []
       → ((p : Place) (s : Slot) (ps : List Place) (ss : List Slot) → P p s → AllPlaces P ps ss → R ps ss → R (p ∷ ps) (s ∷ ss))
       → (places : List Place) (slots : List Slot) → AllPlaces P places slots → R places slots
@@ -27,7 +27,7 @@ module _ (P : Place → Slot → Type 0) where
   by-pairs R none more (p ∷ ps) [] all = absurd all
   by-pairs R none more (p ∷ ps) (s ∷ ss) all = more p s ps ss all.0 all.1 (by-pairs R none more ps ss all.1)
 
-  -- what holds of the place at an index and its slot
+  -- what is true of the place at an index and its slot
   pub all-get : (places : List Place) (slots : List Slot) (i : ℕ) (place : Place) → AllPlaces P places slots → slice_get places i ≡ Some place
       → (slot : Slot) × (slice_get slots i ≡ Some slot) × P place slot
   all-get [] slots i place all at = absurd (never place at)
@@ -62,7 +62,7 @@ module _ (P : Place → Slot → Type 0) where
         by-pairs (λ ps ss. AllPlaces Q ps ss → AllPlaces (λ place slot. P place slot × Q place slot) ps ss) (λ other. tt)
         (λ p s ps ss here all later other. ((here, other.0), later other.1))
 
--- Another fact holds of each pair: at one index of these, and elsewhere by the one that held.
+-- Another fact is true of each pair: at one index of these, and elsewhere by the one that held.
 pub all-set-to : (P Q : Place → Slot → Type 0) (places : List Place) (slots : List Slot) (i : ℕ) (place : Place) (slot : Slot)
     → ((j : ℕ) (p : Place) (s : Slot) → j ≢ i → slice_get places j ≡ Some p → slice_get slots j ≡ Some s → P p s → Q p s)
     → AllPlaces P places slots → Q place slot → AllPlaces Q (set places i place) (set slots i slot)

@@ -1,4 +1,4 @@
--- Each server comes to send nothing.
+-- Each server ends with nothing to send.
 use Rattle.std.proofs.Common.{◌≡◌, ◌⊎◌, ℕ, zero, suc, ◌+◌, ◌<◌, ◌≤◌, List, [], ◌∷◌, Option, None, Some, refl, sym, ap₂, subst, inl, inr, arith}
 use Rattle.std.specs.Option.{option_map}
 use Rattle.ax25_link.specs.Sending.{Sending, next_sending}

@@ -10,7 +10,7 @@ end-here store [] i place lt may is = absurd (omega (arith, lt))
 end-here store (p ∷ ps) zero place lt may is = subst (λ (x : Place). MayEnd store x) (sym is) may.0
 end-here store (p ∷ ps) (suc i) place lt may is = end-here store ps i place (omega (arith, lt)) may is
 
--- and then the places behind it
+-- and then the places after it
 pub end-later : (store now : StoreState) (places : List Place) (i : ℕ) (place : Place) → i < length places → MayAllEnd store (drop i places)
     → place ≡ get_or places i place → HasEnded store now place → MayAllEnd now (drop (suc i) places)
 end-later store now [] i place lt may is ended = absurd (omega (arith, lt))
@@ -24,7 +24,7 @@ AreHeld store places = ((i : ℕ) (c : ConnectionState) → IsAt places i c → 
 suc_zero : (i : ℕ) → suc i ≡ 0 → ⊥
 suc_zero i same = cc
 
--- the same of the places behind the first
+-- the same of the places after the first
 held-behind : (store : StoreState) (p : Place) (ps : List Place) → AreHeld store (p ∷ ps) → AreHeld store ps
 held-behind store p ps are = (
   λ i c at. are.0 (suc i) c at,

@@ -1,11 +1,11 @@
--- What an event makes of a server: where no write and no sync fails no commands are cut off, and the store is the one
+-- What an event makes of a server: if no write and no sync fails, no commands are cut off, and the store is the one
 -- after its commands.
 use Rattle.std.proofs.Common.{◌≡◌, ℕ, suc, List, [], ◌∷◌, Bool, Option, Some, refl, ap, ◌∙◌, arith}
 use Rattle.std.specs.Prelude.{if◌then◌else◌}
 use Rattle.ftl0_server.proofs.Names.{common_steps, CallSign, FrameValue, after_push, LinkEnd, texts, Item, CallerList, Failure, failed_reads, Row, State, row_at, session_over, writes-unlisted, after_all, Store, NodeEvent, taking, Refused, Server, ServerSends, hearing_at, sends_by, Empties, happening, Slot, connected}
 use Rattle.ftl0_server.proofs.connection.QueuingLemmas.{queued-keeps}
 
--- ---- where no write and no sync fails no commands are cut off
+-- ---- if no write and no sync fails, no commands are cut off
 
 module _ (parts : List ℕ) where
   taking-uncut : (caller : CallSign) (moment : ℕ) (store : Store) (lists : List CallerList) (state : State) (end : LinkEnd) (items : List Item) (part : ℕ)

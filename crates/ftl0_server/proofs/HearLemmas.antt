@@ -82,7 +82,7 @@ module _ {D : Type 0} (g : Ghosts D) (old new : ServerState) (server : Server) (
     (found : position (has_caller frame.src) old.places ≡ Some place) (c : ConnectionState) (is_at : IsAt old.places place c) (p : Place)
     (works : Works old.store new.store (Talking c) p) (me : new.me ≡ old.me) (k : new.k ≡ old.k) (stray : new.stray ≡ old.stray)
     (places : new.places ≡ set old.places place p) where
-  -- the server that stands now, where the place is this one
+  -- the server as it is now, if the place is this one
   now-sends : (s : Slot) (store : Store) (lists : List CallerList) → SendsAs server.window p s
       → SendsFor new (record server { slots = set server.slots place s; store = store; lists = lists })
   now-sends s store lists here = grind (arith, common_steps, all-set)

@@ -36,7 +36,7 @@ module _ (w : Window) (new : Place) (before out : List ℕ) where
       let parts = none_first (place_pending p) (any_pending (take i ps)) none in
       rw (quiet-slot w p s all.0 parts.0) (later-gives p s (set ps i new) ss (places_next w ss) all.0 (next-at ps ss i old all.1 at parts.1 gives))
 
--- fewer frames are left of all places where fewer are of one
+-- fewer frames are left of all places if fewer are of one
 pub most-at : (places : List Place) (i : ℕ) (old new : Place) → slice_get places i ≡ Some old → place_most new < place_most old
     → places_most (set places i new) < places_most places
 most-at [] i old new at fewer = absurd (never old at)

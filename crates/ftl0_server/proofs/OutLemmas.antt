@@ -98,7 +98,7 @@ all-freed-says store = by-pairs (SaysAs store) (λ ps ss. AllPlaces (SaysAs stor
 pub settles : (over : Store) (self : ServerState) (server : Server) → any_pending self.places ≡ false → IsServer over self server → IsServer over self (settled server)
 settles over self server none is = search (rules, arith, all-freed-sends, all-freed-says)
 
--- ---- what holds of a server holds after frames are given out
+-- ---- what is true of a server is true after frames are given out
 
 same-first : (p : Place) (d : ConnectionState) → SamePlace p (Talking d) → (c : ConnectionState) × (Some p ≡ Some (Talking c)) × SameTalk c d
 same-first p d same = grind (arith, common_steps)

@@ -9,7 +9,7 @@ pub others-then : (before mid now : StoreState) (caller : CallSign) → KeepsOth
     → KeepsOtherCallers before now caller
 others-then before mid now caller first second = grind (arith, common_steps)
 
--- Where the session is over its upload is parked, and the link left.
+-- If the session is over, its upload is parked, and the link left.
 module _ {D : Type 0} (g : Ghosts D) (w : Window) (event : List Failure → Happened) (store mid now : StoreState) (lists : List CallerList) (disk disk_now : D)
     (connection : ConnectionState) (gives_up : GivesUp mid now) (link : PacketLinkState) (same : link.link ≡ connection.link) where
   left : (happened : Happened) → happened.over ≡ true → StandsFor w connection.link happened.after.end → SendsAs w (Empty link) (slot_after happened)
@@ -31,7 +31,7 @@ module _ {D : Type 0} (g : Ghosts D) (w : Window) (event : List Failure → Happ
         record { then_is = then_is; first = by.3.first; second = among-parked g ⊤ 0 then_is.it mid now then_is.disk disk_now (event (failed_write by.0)).cut gives_up.entries gives_up.journal by.3.second },
       )
 
--- Where it goes on so does the connection.
+-- If it goes on, so does the connection.
 module _ {D : Type 0} (g : Ghosts D) (w : Window) (event : List Failure → Happened) (store now : StoreState) (lists : List CallerList) (disk disk_now : D)
     (connection : ConnectionState) where
   going : (happened : Happened) → happened.over ≡ false → IsConnection w now connection happened.after

@@ -21,7 +21,7 @@ pub nobody : (caller : CallSign) (places : List Place) → position (has_caller 
     → caller_of e.session ≢ caller
 nobody caller places none j e at same = grind (arith, common_steps, lt-ltb, passes-front, same_call-decides)
 
--- ---- what holds of a server still
+-- ---- what is still true of a server
 
 module _ (me : CallSign) (k : ℕ) (store : StoreState) (places : List Place) (i : ℕ) (c : ConnectionState) (within : i < length places)
     (free_there : (e : ConnectionState) → IsAt places i e → ⊥) (settled : IsSettled me k store places)
@@ -33,7 +33,7 @@ module _ (me : CallSign) (k : ℕ) (store : StoreState) (places : List Place) (i
   same_talk : (e : ConnectionState) → Talking c ≡ Talking e → c ≡ e
   same_talk e same = cc
 
-  -- at each other place stands what stood
+  -- at each other place is what was there
   before : (j : ℕ) (e : ConnectionState) → j ≢ i → IsAt places j e → IsAt (set places i (Talking c)) j e
   before j e ne at = slice_get-set_other places i j (Talking c) ne ∙ at
 

@@ -1,4 +1,4 @@
--- A server over events, and others behind them; and its store is the one after its commands.
+-- A server over events, and others after them; and its store is the one after its commands.
 use Rattle.std.proofs.Common.{◌≡◌, ℕ, ◌+◌, List, [], ◌∷◌, ◌++◌, refl, ap, sym, ◌∙◌, append_assoc, arith, rules}
 use Rattle.ftl0_server.specs.Serving.{ServerComesTo, ServesLaw, ServesOver, TakesEvent}
 use Rattle.ftl0_server.proofs.Names.{common_steps, add_assoc, zero-add, FrameValue, Command, after_all, Store, after_all-append, NodeEvent, failed_reads, Server, happening}
@@ -30,7 +30,7 @@ serves-append server (e ∷ events) frames commands missed mid others more furth
   serves-append h.3 events h.5 h.4 h.6 mid others more further other now h.11 k,
 )
 
--- the store that it comes to
+-- the store that it ends with
 serves_store : (server : Server) (events : List NodeEvent) (frames : List FrameValue) (commands : List Command) (missed : ℕ) (now : Server) → ServesOver server events frames commands missed now
     → now.store ≡ after_all server.store commands
 serves_store server [] frames commands missed now h = rw (h.1, h.3) refl

@@ -1,4 +1,4 @@
--- What holds of each server stays so, whatever happens at one place.
+-- What is true of each server stays so, whatever happens at one place.
 use Rattle.std.proofs.Common.{◌≡◌, ◌≢◌, ◌⊎◌, ℕ, zero, suc, ◌<◌, List, [], ◌∷◌, length, get_or, set, Bool, true, false, Option, rules, None, Some, refl, sym, ◌∙◌, ap, subst, inl, inr, arith}
 use Rattle.file_store.specs.Upload.{entry_for}
 use Rattle.ftl0_session.specs.Uploads.Session.{is_same_call}

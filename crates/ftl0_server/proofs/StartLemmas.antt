@@ -1,4 +1,4 @@
--- What the recovery of the store refuses, said of the start.
+-- What the recovery of the store refuses, stated for the start.
 use Rattle.std.proofs.Common.{◌≡◌, ◌↔◌, ℕ, List, Option, inl, inr, sym, ◌∙◌, ap}
 use Rattle.file_store.specs.Recovery.{LeavesAlikeSinceSync, RefusesRecovery}
 use Rattle.file_store.specs.StoreFault.{StoreFault}

@@ -9,7 +9,7 @@ pub server-ticked : (over : Store) (old : ServerState) (server : Server) (places
     → IsServer over (record old { places = places; store = store }) (server_ticking server)
 server-ticked over old server places store is all = grind (arith, common_steps, all-to)
 
--- the frame is SABM, or is refused, or passed over
+-- the frame is SABM, or is refused, or ignored
 module _ (server : Server) (frame : FrameValue) (moment : ℕ) where
   abbrev by_call : Bool → Server
   by_call call =

@@ -5,7 +5,7 @@ use Rattle.ftl0_server.proofs.AllPlaces.{all-set-to, never}
 use Rattle.ftl0_server.proofs.NextLemmas.{none_first}
 use Rattle.ftl0_server.proofs.SettledLemmas.{says-kept}
 
--- a tick came at the first so many of these
+-- a tick came at this number of these, the first ones
 abbrev pub ticked : ℕ → List Slot → List Slot
 ticked zero slots = slots
 ticked (suc i) [] = []
@@ -33,7 +33,7 @@ all-works w me k before now places slots i old new s at settled works all here =
     all-set-to (IsPlace w before) (IsPlace w now) places slots i new s
     (λ j place slot ne there it is. (is.0, says-kept me k before now places i old new at settled works j place slot ne there is.1)) all here
 
--- of its caller no upload is out but its own
+-- of its caller no upload is out except its own
 pub own-only : (me : CallSign) (k : ℕ) (store : StoreState) (places : List Place) (i : ℕ) (c : ConnectionState) → IsAt places i c
     → IsSettled me k store places → IsOnlyOut store c.session.uploads
 own-only me k store places i c at settled =
@@ -57,7 +57,7 @@ may-tick me k store places i (Talking c) at settled none =
     let quiet = quiet-at places i (Talking c) at none in grind (arith, common_steps)
 may-tick me k store places i (Empty link) at settled none = tt
 
--- the places behind it are as they were
+-- the places after it are as they were
 pub quiet-later : (places : List Place) (i : ℕ) (new : Place) → any_pending (drop i places) ≡ false → any_pending (drop (suc i) (set places i new)) ≡ false
 quiet-later [] i new none = refl
 quiet-later (p ∷ ps) zero new none = (none_first (place_pending p) (any_pending ps) none).1

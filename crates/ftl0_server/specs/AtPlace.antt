@@ -30,8 +30,8 @@ use Rattle.ftl0_server.specs.declared.place.Place.TheVariants.{Moving, Talking, 
 use Rattle.ftl0_server.specs.ServerState.{SaysAs, SendsAs}
 use Rattle.ftl0_server.specs.Slots.{Slot, connected, slot_after}
 
--- What any event leaves of a store and its disk: no write and no sync came behind one that failed, each complete entry
--- is kept, and the store stands on the disk, and has failed only where this holds.
+-- What any event leaves of a store and its disk: no write and no sync came after one that failed, each complete entry
+-- is kept, and the store is on the disk, and has failed only if this holds.
 pub record KeepsStore {D : Type 0} (g : Ghosts D) (failed : Type 0) (before now : StoreState) (disk disk_now : D) :
     Type 0 where
   pub puts : PutsAmongReads g failed disk disk_now
@@ -107,16 +107,16 @@ IsLeft store old Moving = ⊥
 IsLeft store old (Talking connection) = GoesOn store old connection
 IsLeft store old (Empty link) = IsEmptied store old link.link
 
--- An event came at a place: the store keeps the uploads of other callers than the connection's. Where there is no
--- connection nothing changes.
+-- An event came at a place: the store keeps the uploads of other callers than the connection's. If there is no
+-- connection, nothing changes.
 abbrev pub Works : StoreState → StoreState → Place → Place → Type 0
 Works before now Moving new = (now ≡ before) × (new ≡ Moving)
 Works before now (Talking connection) new =
     KeepsOtherCallers before now (caller_of connection.session) × IsLeft now connection new
 Works before now (Empty link) new = (now ≡ before) × (new ≡ Empty link)
 
--- What a frame that is heard at a place does, where `event` gives what it makes of the connection there by the writes
--- and syncs that fail in it: as the connection's call says it, but that the place is the one that is left.
+-- What a frame that is heard at a place does: as the connection's call says it, except that the place is the one that
+-- is left. `event` gives what it makes of the connection there by the writes and syncs that fail in it.
 abbrev pub PlaceHearsBy :
     {D : Type 0} → Ghosts D → Window → (List Failure → Happened) → AtDisk StoreState D → WorkingOn D → Place
     → Result ⊤ DiskFault → Type 0
@@ -130,8 +130,8 @@ PlaceHearsBy g w event before now place (Err fault) =
 
 -- A frame was heard at a place, of which this is what it makes of the connection there by the failures of the disk;
 -- reads failed at these parts of it. Since it came each image stands for the store after the first of the commands that
--- it has where no write and no sync fails, for some number of them. Where there was no stop the store is the one after
--- all of them.
+-- it has when no write and no sync fails, for some number of them. If there was no stop, the store is the one after all
+-- of them.
 pub record PlaceHears {D : Type 0} (g : Ghosts D) (w : Window) (event : List Failure → Happened)
     (before : AtDisk StoreState D) (now : WorkingOn D) (place : Place) (result : Result ⊤ DiskFault) : Type 0 where
   pub parts : List ℕ
@@ -143,8 +143,8 @@ pub record PlaceHears {D : Type 0} (g : Ghosts D) (w : Window) (event : List Fai
       result ≡ Ok tt
       → store_on g now.store now.disk ≡ after_all (store_on g before.it before.disk) (with_reads event parts []).done
 
--- A frame was heard at this moment, of whichever connection the place stood for: where it is known what octets the
--- files have, or no octet of a file is looked at, it is of that connection what the frame makes.
+-- A frame was heard at this moment, of whichever connection the place stood for: if it is known what octets the files
+-- have, or no octet of a file is looked at, it is of that connection what the frame makes.
 abbrev pub PlaceHearsFrame :
     {D : Type 0} → Ghosts D → ℕ → FrameValue → WorkingOn D → WorkingOn D → Place → Place → Result ⊤ DiskFault → Type 0
 PlaceHearsFrame g moment frame before now old new result =

@@ -24,11 +24,11 @@ use Rattle.ftl0_server.specs.Server.{Server, ServerHappened, ServerSends, server
 use Rattle.ftl0_server.specs.ServerState.{IsServer, SendsFor, ServerState, any_pending, has_caller, server_pending}
 use Rattle.ftl0_server.specs.ServerStep.{LooksAtNoFile, happening}
 
--- What an event does, where `event` gives what it makes of the server by the writes and syncs that fail in it. Where
--- all was taken none failed, and its commands are done. Where the disk failed, at a write or a sync of some packet and
--- nowhere else, the commands before it are done, and it failed in one of that packet's; the frames that are pending
--- then are those of that step. The count of failed reads rose exactly where a part told of one. The disk gets no longer
--- than a store of so many blocks may be, or than it was.
+-- What an event does. `event` gives what it makes of the server by the writes and syncs that fail in it. If all was
+-- taken, none failed, and its commands are done. If the disk failed, at a write or a sync of some packet and nowhere
+-- else, the commands before it are done, and it failed in one of that packet's; the frames that are pending then are
+-- those of that step. The count of failed reads rose exactly when a part reported one. The disk gets no longer than a
+-- store of this number of blocks may be, or than it was.
 abbrev pub HearsBy :
     {D : Type 0} → Ghosts D → (List Failure → ServerHappened) → ServerState → ServerState → D → D → Result ⊤ DiskFault
     → Type 0
@@ -41,8 +41,8 @@ HearsBy g event old new disk disk_now (Err fault) =
     (event (failed_write part)).done (event (failed_write part)).cut
 
 -- An event came, of which this is what it makes of the server by the failures of the disk; reads failed at these parts
--- of it. Since it came each image stands for the store after the first of the commands that it has where no write and
--- no sync fails, for some number of them: that is what a power cut inside it leaves.
+-- of it. Since it came each image stands for the store after the first of the commands that it has when no write and no
+-- sync fails, for some number of them: that is what a power cut inside it leaves.
 pub record Hears {D : Type 0} (g : Ghosts D) (event : List Failure → ServerHappened) (old new : ServerState)
     (disk disk_now : D) (result : Result ⊤ DiskFault) : Type 0 where
   pub parts : List ℕ
@@ -61,8 +61,8 @@ pub record AwaitsFrame {D : Type 0} (g : Ghosts D) (self : ServerState) (disk : 
   pub awaits : AwaitsEvent g self disk
 
 -- What an event does: of whichever server it stood for, over the store of files that the disk holds, it is what the
--- event makes of that, or it stops; this where it is known what octets the files have, and on every disk where no octet
--- of a file is looked at. It keeps its store and its call.
+-- event makes of that, or it stops; this if it is known what octets the files have, and on every disk if no octet of a
+-- file is looked at. It keeps its store and its call.
 pub record HearsEvent {D : Type 0} (g : Ghosts D) (event : NodeEvent) (old new : ServerState) (disk disk_now : D)
     (result : Result ⊤ DiskFault) : Type 0 where
   pub hears :
@@ -74,8 +74,8 @@ pub record HearsEvent {D : Type 0} (g : Ghosts D) (event : NodeEvent) (old new :
   pub keeps : KeepsStore g (IsErr result) old.store new.store disk disk_now
   pub me : new.me ≡ old.me
 
--- What is handed out where this is sent next: nothing, and nothing changes; or the octets of its frame in place of
--- those that the buffer held. The server is then, in this sense, the one that has sent it.
+-- What is handed out if this is sent next: nothing, and nothing changes; or the octets of its frame in place of those
+-- that the buffer held. The server is then, in this sense, the one that has sent it.
 abbrev pub HandsOut :
     (ServerState → Server → Type 0) → Option ServerSends → ServerState → ServerState → List ℕ → List ℕ → Bool → Type 0
 HandsOut Stands None old new before now answer = (answer ≡ false) × (new ≡ old) × (now ≡ before)
@@ -88,14 +88,14 @@ abbrev pub HandsOutNext :
 HandsOutNext Stands old new before now answer =
     (server : Server) → Stands old server → HandsOut Stands (server_next server) old new before now answer
 
--- the places are the same, but that frames were given out
+-- the places are the same, except that frames were given out
 abbrev pub SamePlaces : List Place → List Place → Type 0
 SamePlaces [] [] = ⊤
 SamePlaces [] (after ∷ others) = ⊥
 SamePlaces (place ∷ places) [] = ⊥
 SamePlaces (place ∷ places) (after ∷ others) = SamePlace place after × SamePlaces places others
 
--- giving out a frame changes nothing but the links, and the DM that was to be sent
+-- giving out a frame changes nothing except the links, and the DM that was to be sent
 pub record SameButLinks (old new : ServerState) : Type 0 where
   pub me : new.me ≡ old.me
   pub k : new.k ≡ old.k

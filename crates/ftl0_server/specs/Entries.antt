@@ -1,5 +1,5 @@
 -- What a session does with a frame, packet by packet: each packet that it takes with the row that the store and the
--- lists gave, and each packet that it queues of itself (FTL0 1990).
+-- lists gave, and each packet that it queues by itself (FTL0 1990).
 use Rattle.std.specs.Prelude.{◌≡◌, ℕ, zero, suc, List, [], ◌∷◌, ◌++◌, flat_map, nat_le, false, if◌then◌else◌, Some, ⊤}
 use Rattle.std.specs.List.{AllByRecursion}
 use Rattle.px_base.specs.CallSign.{CallSign}
@@ -66,7 +66,7 @@ said_in entries = flat_map packets_said entries
 abbrev pub commands_in : List SessionEntry → List Command
 commands_in entries = flat_map commands_of entries
 
--- the row of a packet, where no read of the disk fails
+-- the row of a packet, if no read of the disk fails
 abbrev pub row_of : CallSign → ℕ → Session → Item → Row
 row_of caller moment session item =
     session_row caller moment session.store session.lists session.state item false
@@ -86,7 +86,7 @@ entries_taken caller moment session end (item ∷ items) =
     ∷ entries_taken caller moment (after_row session row) (after_push end (texts row.replies)) items
     else lost item row ∷ []
 
--- What is due is queued, one packet after another, while enough octets are free: so many of them at most.
+-- What is due is queued, one packet after another, while enough octets are free: this number of them at most.
 abbrev pub entries_due : ℕ → Store → LinkEnd → State → List SessionEntry
 entries_due zero store end state = []
 entries_due (suc more) store end state =
@@ -95,13 +95,13 @@ entries_due (suc more) store end state =
     (λ due. queued due ∷ entries_due more store (after_push end (packet_text due.packet)) due.state)
     else []
 
--- what is due behind the packets of a frame, but not where the session is over
+-- what is due after the packets of a frame, but not if the session is over
 abbrev pub entries_behind : Store → Progress → List SessionEntry
 entries_behind store progress =
     if progress.over then []
     else entries_due (free_octets progress.end) (after_all store progress.done) progress.end progress.state
 
--- the packets that the link tells of: those that the information finishes, where it is next in the stream
+-- the packets that the link reports: those that the information finishes, if it is next in the stream
 abbrev pub packets_told : Heard → Connected → List ℕ → List Item
 packets_told Nothing c octets = []
 packets_told Opened c octets = []
@@ -112,8 +112,7 @@ packets_told (Closed why) c octets = []
 abbrev pub packets_heard : Window → Connected → FrameValue → List Item
 packets_heard w c frame = packets_told (heard_of w c.end frame) c frame.kind.information
 
--- What a connection's session does with a frame of its caller that is no SABM, at this moment, where no disk call
--- fails.
+-- What a connection's session does with a frame of its caller that is no SABM, at this moment, if no disk call fails.
 abbrev pub entries_heard : Window → ℕ → Store → List CallerList → Connected → FrameValue → List SessionEntry
 entries_heard w moment store lists c frame =
     entries_taken (caller_of c) moment (session_over store lists c.state) (after_frame w c.end frame)
@@ -136,9 +135,9 @@ GoesBy caller moment session (queued due ∷ entries) now =
 abbrev pub session_after : Store → Happened → Session
 session_after store happened = session_over (after_all store happened.done) happened.lists happened.after.state
 
--- What a frame makes of a connection is what these entries make of its end, its session, the store and the lists.
--- They took the first of the packets that came: all of them, unless the last one that they took was lost. None was
--- where the session goes on.
+-- What a frame makes of a connection is what these entries make of its end, its session, the store and the lists. They
+-- took the first of the packets that came: all of them, unless the last one that they took was lost. None was lost if
+-- the session goes on.
 pub record HeardBy (w : Window) (frame : FrameValue) (c : Connected) (happened : Happened) (entries : List SessionEntry)
     : Type 0 where
   pub doings : List Doing
@@ -150,7 +149,8 @@ pub record HeardBy (w : Window) (frame : FrameValue) (c : Connected) (happened :
   pub none_lost : happened.over ≡ false → AllByRecursion IsNotLost entries
   pub done : happened.done ≡ commands_in entries
 
--- Each frame but a SABM makes that of a connection whose end is up, by the entries that come of it one after another.
+-- Each frame except a SABM makes that of a connection whose end is up, by the entries that come of it one after
+-- another.
 abbrev pub HearingLaw : Type 0
 HearingLaw =
     (w : Window) (moment : ℕ) (store : Store) (lists : List CallerList) (c : Connected) (frame : FrameValue)

@@ -35,7 +35,7 @@ AreDistinct places =
     (one other : ℕ) (first second : ConnectionState) → IsAt places one first → IsAt places other second
     → caller_of first.session ≡ caller_of second.session → one ≡ other
 
--- this is the number of the upload of this caller's session; none, where it has none or isn't connected
+-- this is the number of the upload of this caller's session; none, if it has none or isn't connected
 abbrev pub IsUploadOf : List Place → CallSign → Option ℕ → Type 0
 IsUploadOf places caller number =
     ((place : ℕ) (connection : ConnectionState) → IsAt places place connection
@@ -55,8 +55,8 @@ HasLink me k store Moving = ⊥
 HasLink me k store (Talking connection) = ⊤
 HasLink me k store (Empty link) = IsEmpty me k store link.link
 
--- Each connection is seated, no caller has two, and of no caller is an upload out but that of its session. Each place
--- has its link, and unless the store has failed one without a session may begin one.
+-- Each connection is seated, no caller has two, and of no caller is an upload out except that of its session. Each
+-- place has its link, and unless the store has failed one without a session may begin one.
 pub record IsSettled (me : CallSign) (k : ℕ) (store : StoreState) (places : List Place) : Type 0 where
   pub good : IsGoodK k
   pub seated :

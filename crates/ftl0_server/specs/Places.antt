@@ -21,7 +21,7 @@ pub record SameTalk (old new : ConnectionState) : Type 0 where
   pub state : new.link.state ≡ old.link.state
   pub stations : SameStations old.link new.link
 
--- the place has what it had, but that a frame was given out
+-- the place has what it had, except that a frame was given out
 abbrev pub SamePlace : Place → Place → Type 0
 SamePlace Moving Moving = ⊤
 SamePlace Moving (Talking connection) = ⊥
@@ -33,8 +33,7 @@ SamePlace (Empty link) Moving = ⊥
 SamePlace (Empty link) (Talking connection) = ⊥
 SamePlace (Empty link) (Empty after) = SameLink link.link after.link
 
--- What is given out where this is sent next: nothing; or the octets of its frame in place of those that the buffer
--- held.
+-- What is given out if this is sent next: nothing; or the octets of its frame in place of those that the buffer held.
 abbrev pub GivesOut : Option SlotSends → Window → Place → List ℕ → List ℕ → Bool → Type 0
 GivesOut None w now before after answer = answer ≡ false
 GivesOut (Some sends) w now before after answer =
@@ -45,8 +44,8 @@ abbrev pub PlaceGives : Place → Place → List ℕ → List ℕ → Bool → T
 PlaceGives old new before after answer =
     (w : Window) (slot : Slot) → SendsAs w old slot → GivesOut (slot_next w slot) w new before after answer
 
--- What is given out where the places send this next: nothing; or the octets of its frame in place of those that the
--- buffer held.
+-- What is given out if the places send this next: nothing; or the octets of its frame in place of those that the buffer
+-- held.
 abbrev pub PlacesGive : Option PlacesSend → Window → List Place → List ℕ → Bool → Type 0
 PlacesGive None w now after answer = answer ≡ false
 PlacesGive (Some sends) w now after answer =

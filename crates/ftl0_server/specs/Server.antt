@@ -41,7 +41,7 @@ abbrev pub new_server : CallSign → Window → Store → Server
 new_server me window store =
     record { me = me; window = window; slots = all_free; stray = None; store = store; lists = [] }
 
--- What a frame makes of a server: what it is then; how many parts of the event told that a read failed; the store's
+-- What a frame makes of a server: what it is then; how many parts of the event reported that a read failed; the store's
 -- commands that are done, and those in one of which the disk failed; and why no more of the frame was taken.
 pub record ServerHappened : Type 0 where
   pub after : Server
@@ -77,15 +77,15 @@ heard_at server place happened =
       halt = happened.halt;
     }
 
--- A station without a connection says SABM with this P bit: it gets the lowest empty place, or DM with F = P where none
--- is empty (AX.25 2.0, 2.4.3.1). LOGIN_RESP says whether numbers are left in its list (FTL0 1990, LOGIN_RESP).
+-- A station without a connection says SABM with this P bit: it gets the lowest empty place, or DM with F = P if none is
+-- empty (AX.25 2.0, 2.4.3.1). LOGIN_RESP says whether numbers are left in its list (FTL0 1990, LOGIN_RESP).
 abbrev pub called_by : Server → CallSign → Bool → ℕ → Option ℕ → Server
 called_by server caller poll moment None = refusing server caller poll
 called_by server caller poll moment (Some place) =
     with_slot server place (connected (answering server.me caller poll moment (has_left server.lists caller)))
 
 -- A frame of a station without a connection: SABM calls; any other command with P = 1 gets DM with F = 1, and the rest
--- is passed over (AX.25 2.0, 2.4.3.4).
+-- is ignored (AX.25 2.0, 2.4.3.4).
 abbrev pub hearing_stranger : Server → FrameValue → ℕ → Server
 hearing_stranger server frame moment =
     if is_call frame.kind.control then called_by server frame.src frame.poll moment (first_empty server.slots)

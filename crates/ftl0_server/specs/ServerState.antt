@@ -46,12 +46,12 @@ SendsAs w (Empty link) free = is_pending link.link ≡ false
 SendsAs w (Empty link) (connected c) = ⊥
 SendsAs w (Empty link) (leaving c) = StandsFor w link.link c.end
 
--- what the session of a connection has come to, over this store
+-- how far the session of a connection is, over this store
 pub record TalksAs (store : StoreState) (connection : ConnectionState) (c : Connected) : Type 0 where
   pub rest : connection.octets ≡ c.rest
   pub state : state_in store connection.session ≡ c.state
 
--- the same of a place, where it has a session
+-- the same of a place, if it has a session
 abbrev pub SaysAs : StoreState → Place → Slot → Type 0
 SaysAs store Moving slot = ⊤
 SaysAs store (Talking connection) free = ⊤
@@ -59,7 +59,7 @@ SaysAs store (Talking connection) (connected c) = TalksAs store connection c
 SaysAs store (Talking connection) (leaving c) = ⊤
 SaysAs store (Empty link) slot = ⊤
 
--- this holds of each place and the slot at it, and there are as many of the one as of the other
+-- this is true of each place and the slot at it, and there are as many of the one as of the other
 abbrev pub AllPlaces : (Place → Slot → Type 0) → List Place → List Slot → Type 0
 AllPlaces P [] [] = ⊤
 AllPlaces P [] (slot ∷ slots) = ⊥

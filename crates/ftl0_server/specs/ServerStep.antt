@@ -31,7 +31,7 @@ LooksAtNoneAt server frame moment (Some (connected c)) =
     LooksAtNone server.window moment server.store server.lists c frame
 LooksAtNoneAt server frame moment (Some (leaving c)) = ⊤
 
--- so the server, where its sender's connection is at this place
+-- so the server, if its sender's connection is at this place
 abbrev pub LooksAtNoneBy : Server → FrameValue → ℕ → Option ℕ → Type 0
 LooksAtNoneBy server frame moment None = ⊤
 LooksAtNoneBy server frame moment (Some place) =
@@ -39,14 +39,14 @@ LooksAtNoneBy server frame moment (Some place) =
 
 -- No octet of a file is looked at for the event: it is a tick, or a frame of a station without a connection, or one
 -- that brings its sender's connection no packet, or packets for which none is looked at and by which none becomes held;
--- and behind it nothing is due.
+-- and after it nothing is due.
 abbrev pub LooksAtNoFile : Server → NodeEvent → Type 0
 LooksAtNoFile server (hears frame moment) = LooksAtNoneBy server frame moment (place_of frame.src server.slots)
 LooksAtNoFile server (ticks moment) = ⊤
 
--- What a step gives: the commands that are done, and, where the disk failed, those in one of which it did; how many
--- parts told that a read failed; why no more was taken; the frames that are sent; and the server then, or, where it
--- stops, its places.
+-- What a step gives: the commands that are done, and, if the disk failed, those in one of which it did; how many parts
+-- reported that a read failed; why no more was taken; the frames that are sent; and the server then, or, if it stops,
+-- its places.
 pub record Stepped : Type 0 where
   pub done : List Command
   pub cut : List Command

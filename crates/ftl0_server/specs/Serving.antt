@@ -9,14 +9,14 @@ use Rattle.ftl0_server.specs.Server.{Server}
 use Rattle.ftl0_server.specs.ServerStep.{ServerStep, happening, stepped}
 
 -- The server takes an event at which no write and no sync fails: it sends these frames and does these commands. Reads
--- fail at some parts of the event, or at none, and so many parts tell of one.
+-- fail at some parts of the event, or at none, and this many parts report one.
 pub record TakesEvent (server : Server) (event : NodeEvent) (sent : List FrameValue) (done : List Command)
     (told : ℕ) (next : Server) : Type 0 where
   pub parts : List ℕ
   pub step : ServerStep server event (failed_reads parts) (stepped done [] told goes_on sent next)
 
 -- Over these events, at none of which it stops, the server comes from one to another, says these frames and does these
--- commands; so many parts of them tell that a read failed.
+-- commands; this many parts of them report that a read failed.
 abbrev pub ServesOver : Server → List NodeEvent → List FrameValue → List Command → ℕ → Server → Type 0
 ServesOver server [] frames commands missed now =
     (frames ≡ []) × (commands ≡ []) × (missed ≡ 0) × (now ≡ server)
@@ -26,8 +26,8 @@ ServesOver server (event ∷ events) frames commands missed now =
     × (frames ≡ sent ++ more) × (commands ≡ done ++ others) × (missed ≡ (told + later))
     × ServesOver next events more others later now
 
--- The server came to this event behind the earlier ones, and reads failed at some parts of it, or at none. Its commands
--- are behind theirs, and others are behind them.
+-- The server reached this event after the earlier ones, and reads failed at some parts of it, or at none. Its commands
+-- come after theirs, and others come after them.
 pub record ServerComesTo (server : Server) (earlier : List NodeEvent) (next : NodeEvent) (commands : List Command) :
     Type 0 where
   pub frames : List FrameValue
@@ -39,7 +39,7 @@ pub record ServerComesTo (server : Server) (earlier : List NodeEvent) (next : No
   pub others : List Command
   pub commands_are : commands ≡ before ++ ((happening server_then next (failed_reads parts)).done ++ others)
 
--- What a server went over: the store that it came to is the one after its commands, and so it was at each event.
+-- What a server went over: the store that it ended with is the one after its commands, and so it was at each event.
 pub record ServesLaw : Type 0 where
   pub store :
       (server : Server) (events : List NodeEvent) (frames : List FrameValue) (commands : List Command)

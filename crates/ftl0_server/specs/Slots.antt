@@ -38,8 +38,8 @@ place_of caller slots = position (is_callers caller) slots
 abbrev pub first_empty : List Slot → Option ℕ
 first_empty slots = position is_empty slots
 
--- What is left of a connection after an event: where its session is over the connection as it was last, whose link
--- still sends what it has to send.
+-- What is left of a connection after an event: if its session is over, the connection as it was last, whose link still
+-- sends what it has to send.
 abbrev pub left_by : Bool → Connected → Slot
 left_by false c = connected c
 left_by true c = leaving c
@@ -72,7 +72,7 @@ pub record PlacesSend : Type 0 where
   pub frame : FrameValue
   pub after : List Slot
 
--- the first place sends this, or those behind it send that, if they send anything
+-- the first place sends this, or those after it send that, if they send anything
 abbrev pub first_of : Slot → List Slot → Option SlotSends → Option PlacesSend → Option PlacesSend
 first_of slot slots None later = option_map (λ l. record { frame = l.frame; after = slot ∷ l.after }) later
 first_of slot slots (Some sends) later = Some (record { frame = sends.frame; after = sends.after ∷ slots })

@@ -8,7 +8,7 @@ ghost use Rattle.ftl0_server.specs.ServerStep.{Empties};
 
 use crate::Server;
 
-/// A server comes to send nothing, after some list of frames, whatever was pushed and heard. Takes no memory.
+/// A server has nothing left to send after some list of frames, whatever was pushed and heard. Takes no memory.
 pub fn empties_law(server: &Server)
     ensures { (value : ServerValue) → SendsFor server.now value →
         (frames : List FrameValue) × (last : ServerValue) × Empties value frames last }

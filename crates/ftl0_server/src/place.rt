@@ -68,7 +68,7 @@ impl Place {
     }
 
     /// Replaces `out` by the octets of the next pending frame, which is then sent. It is false, and changes nothing,
-    /// exactly where nothing is pending.
+    /// exactly when nothing is pending.
     pub(crate) fn next_out(&mut self, out: &mut ArrayVec<u8, 400>) -> bool
         ensures pending { result ≡ place_pending self.old }
         ensures none { result ≡ false → (self.new ≡ self.old) × (out.new.items ≡ out.old.items) }
@@ -109,8 +109,8 @@ impl Place {
         }
     }
 
-    /// Hears a frame of the caller whose connection it has, at this moment: as [`Connection::hear`], but that where the
-    /// session is over its upload is parked, and its link kept for what it has to send.
+    /// Hears a frame of the caller whose connection it has, at this moment: as [`Connection::hear`], except that if the
+    /// session is over, its upload is parked, and its link kept for what it has to send.
     pub(crate) fn hear<D: Disk>(
         &mut self,
         disk: &mut D,
@@ -141,7 +141,7 @@ impl Place {
         }
     }
 
-    /// Counts a tick: where the caller doesn't answer any more the session is over, and its upload parked.
+    /// Counts a tick: if the caller doesn't answer any more, the session is over, and its upload parked.
     pub(crate) fn tick(&mut self, store: &mut FileStore)
         requires { MayTick store.old self.old }
         ensures ticks { (w : Window) (slot : Slot) → IsPlace w store.old self.old slot →

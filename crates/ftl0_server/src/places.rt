@@ -47,7 +47,7 @@ pub(crate) fn count_sessions(places: &[Place]) -> usize
 }
 
 /// Replaces `out` by the octets of the next pending frame of the first place that has one. It is false, and changes
-/// nothing, exactly where nothing is pending.
+/// nothing, exactly when nothing is pending.
 pub(crate) fn next_of(places: &mut [Place], out: &mut ArrayVec<u8, 400>) -> bool
     ensures pending { result ≡ any_pending places.old }
     ensures none { result ≡ false → (places.new ≡ places.old) × (out.new.items ≡ out.old.items) }

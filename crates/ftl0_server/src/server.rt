@@ -69,7 +69,7 @@ impl Model for Server {
 impl Server {
     /// Recovers the store from the disk, as [`FileStore::recover`] does, and starts a server of it, without sessions
     /// and without selections: the station `me`, with at most k I frames outstanding on each link; `good_k(k)` holds.
-    /// Takes memory, behind the recovery about 300 KiB: for the selections, and for the links of the eight places.
+    /// Takes memory, after the recovery about 300 KiB: for the selections, and for the links of the eight places.
     ///
     /// `NotAStore` and `Damaged` leave the disk's content as it was. After `Disk` and `OutOfMemory` the disk is to be
     /// recovered again.
@@ -122,13 +122,13 @@ impl Server {
         })
     }
 
-    /// Hears a frame for this station without repeaters at this moment, while nothing
-    /// is pending. A frame of a connected caller is its connection's ([`Connection::hear`]). SABM of another station
-    /// begins a session at the lowest empty place, or is refused by DM where there is none; any other command with
-    /// P = 1 of such a station gets DM, and the rest is passed over (AX.25 2.0, 2.4.3). The commands of the frame's
-    /// packets are on the disk before any frame is given out. A read of the disk that fails is told by code 3, and the
-    /// server goes on. It costs the frame's octets, finding its sender among eight, what its packets cost the store,
-    /// and the octets of the files that it sends. Takes no memory.
+    /// Hears a frame for this station without repeaters at this moment, while nothing is pending. A frame of a
+    /// connected caller is its connection's ([`Connection::hear`]). SABM of another station begins a session at the
+    /// lowest empty place, or is refused by DM if there is none; any other command with P = 1 of such a station gets
+    /// DM, and the rest is ignored (AX.25 2.0, 2.4.3). The commands of the frame's packets are on the disk before any
+    /// frame is given out. A read of the disk that fails is reported by code 3, and the server goes on. It costs the
+    /// frame's octets, finding its sender among eight, what its packets cost the store, and the octets of the files
+    /// that it sends. Takes no memory.
     ///
     /// After a fault the frames that are pending are given out first, code 3 among them. Then the server is closed.
     pub fn hear<D: Disk>(
@@ -140,8 +140,8 @@ impl Server {
         requires { AwaitsFrame D.Disk self.old disk.old (value_of frame.now) }
 
         // Of whichever server it stands for, over the store that the disk holds, it is what the frame makes of that, or
-        // it stops: where it is known what octets the files have, and on every disk where none of them is looked at, as
-        // for a stranger's frame, or one that brings no packet or refused ones. It keeps what the next event needs.
+        // it stops: if it is known what octets the files have, and on every disk if none of them is looked at, as for a
+        // stranger's frame, or one that brings no packet or refused ones. It keeps what the next event needs.
         ensures { HearsEvent D.Disk (hears (value_of frame.now) moment) self.old self.new disk.old disk.new result }
     {
         match place_of(&self.places, frame.src) {
@@ -176,7 +176,7 @@ impl Server {
 
     /// Replaces `out` by the octets of the next pending frame, which is then sent: the DM to a station without a
     /// connection first, then the frames of the first place, then those of the next. It is false, and changes nothing,
-    /// exactly where nothing is pending. Takes no memory.
+    /// exactly when nothing is pending. Takes no memory.
     pub fn next_out(&mut self, out: &mut ArrayVec<u8, 400>) -> bool
         ensures pending { result ≡ server_pending self.old }
         ensures none { result ≡ false → self.new ≡ self.old }
@@ -276,8 +276,8 @@ impl Server {
     }
 
     /// Answers a SABM with this P bit of a station without a connection: by a session at the lowest empty place, whose
-    /// LOGIN_RESP says whether numbers are left in the station's list, or by DM where none is empty (AX.25 2.0,
-    /// 2.4.3.1; FTL0 1990, LOGIN_RESP).
+    /// LOGIN_RESP says whether numbers are left in the station's list, or by DM if none is empty (AX.25 2.0, 2.4.3.1;
+    /// FTL0 1990, LOGIN_RESP).
     fn answer(&mut self, caller: Call, poll: bool, moment: Moment)
         requires { AwaitsStranger self.old caller }
         ensures heard { HearsStranger (λ server. called_by server caller poll moment (first_empty server.slots))

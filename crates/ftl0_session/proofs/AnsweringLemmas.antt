@@ -14,7 +14,7 @@ use Rattle.ftl0_session.proofs.downloads.SentLemmas.{is_due-after}
 
 -- ---- parts whose reads failed
 
--- with this part, where its read failed
+-- with this part, if its read failed
 abbrev pub with_part : Bool → ℕ → List ℕ → List ℕ
 with_part true part parts = part ∷ parts
 with_part false part parts = parts
@@ -24,7 +24,7 @@ with-other : (fails : Bool) (part : ℕ) (parts : List ℕ) (number : ℕ) → (
 with-other true part parts number other = ap (λ (b : Bool). (b && true) || read_fails (failed_reads parts) number) other
 with-other false part parts number other = refl
 
--- it is where its read failed, and only there
+-- it is if its read failed, and only then
 with-here : (fails : Bool) (part : ℕ) (parts : List ℕ) → read_fails (failed_reads parts) part ≡ false → read_fails (failed_reads (with_part fails part parts)) part ≡ fails
 with-here true part parts free =
     let same : (part == part) ≡ true = grind (arith, nat_tests) in
@@ -34,7 +34,7 @@ with-here false part parts free = free
 -- ---- packets that are sent one after another
 
 module _ (store : Store) (failures others : List Failure) where
-  -- what is due where these list the same reads
+  -- what is due if these list the same reads
   due-same : (state : State) (part : ℕ) (o : Option DuePacket) → read_fails failures part ≡ read_fails others part → due_at store state failures part ≡ o → due_at store state others part ≡ o
   due-same state part o same is = ap (λ (b : Bool). next_due store state b) (sym same) ∙ is
 

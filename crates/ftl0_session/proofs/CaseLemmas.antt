@@ -1,11 +1,12 @@
--- What holds of each row of uploading, of each row of downloading, and of error 1 holds of each row of the whole table.
+-- What is true of each row of uploading, of each row of downloading, and of error 1 is true of each row of the whole
+-- table.
 use Rattle.std.proofs.Common.{ℕ, List, Bool, Option, None, Some}
 use Rattle.ftl0_session.specs.Uploads.Session as upload
 use Rattle.ftl0_session.specs.Downloads.Table as download
 use Rattle.ftl0_session.specs.Table.{aborting, command, download_row, listing, receiving, sending, session_row, waiting}
 use Rattle.ftl0_session.proofs.Names.{Ok, Err, IfSome, CallSign, Item, PacketValue, Store, CallerList, DownloadRow, DownloadState, ready, Row, State, by_download, by_upload, downloading, error_row, row_among, state_by, upload_row}
 
--- what holds of all values holds of the one that there is
+-- what is true of all values is true of the one that there is
 pub if-there : {X : Type 0} (o : Option X) (P : X → Type 0) → ((x : X) → P x) → IfSome o P
 if-there None P all = tt
 if-there (Some x) P all = all x

@@ -10,7 +10,7 @@ rest-none : (a b : ℕ) → a + b ≡ 0 → b ≡ 0
 rest-none a b none = omega (arith, none)
 
 module _ {D : Type 0} (g : Ghosts D) (disk : D) (fails : Bool) where
-  -- a packet that tells of no failed read and of no failed write
+  -- a packet that reports no failed read and no failed write
   cause-quiet : (packet : PacketValue) → tells_failed_read packet ≡ false → IsNoFault packet → HasCause g disk fails packet
   cause-quiet (ul_error_resp code) silent other = λ three. other.0 (ap ul_error_resp three)
   cause-quiet (ul_nak_resp code) silent other = λ three. absurd (other.1 (ap ul_nak_resp three))
@@ -24,7 +24,7 @@ module _ {D : Type 0} (g : Ghosts D) (disk : D) (fails : Bool) where
     causes-quiet said (rest-none (one_if (tells_failed_read packet)) (failed_reads_told said) none) others.1,
   )
 
-  -- packets that do, where no read failed
+  -- packets that do, if no read failed
   pub says-quiet : (said : List PacketValue) (replies : List ℕ) → fails ≡ false → replies ≡ texts said → failed_reads_told said ≡ 0 → AllByRecursion IsNoFault said → Says g disk fails replies
   says-quiet said replies fine text none others =
       record { said = said; text = text; told = λ failed. absurd (true≢false (sym failed ∙ fine)); causes = causes-quiet said none others }

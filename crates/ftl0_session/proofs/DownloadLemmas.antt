@@ -40,7 +40,7 @@ downloads caller moment store lists state packet fails row is =
 
 -- ---- what is sent
 
--- what is due of a session is due of its downloading, where no read fails
+-- what is due of a session is due of its downloading, if no read fails
 due-in : (store : Store) (failures : List Failure) (part : ℕ) (state : DownloadState) → NoReadFails failures
     → due_at store (downloading state) failures part ≡ option_map in_session (due.next_due store state false)
 due-in store failures part state none =

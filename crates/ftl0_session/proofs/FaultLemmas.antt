@@ -12,7 +12,7 @@ use Rattle.ftl0_session.specs.Table.{session_row}
 use Rattle.ftl0_session.proofs.CaseLemmas.{session-case}
 use Rattle.ftl0_session.proofs.RowLemmas.{upload_part-free}
 
--- where no read fails, none of these replies tells of one
+-- if no read fails, none of these replies reports one
 abbrev pub Silent : List PacketValue → Type 0
 Silent replies = failed_reads_told replies ≡ 0
 
@@ -30,7 +30,7 @@ told-by (dl_error_resp code) other = other
 told-by (ul_nak_resp code) other = other
 told-by reply other = refl
 
--- replies that tell of a read only where one failed, and of no write
+-- replies that report a failed read only if one failed, and no failed write
 pub record Keeps (fails : Bool) (replies : List PacketValue) : Type 0 where
   pub reads : fails ≡ false → Silent replies
   pub writes : AllByRecursion IsNoFault replies
@@ -56,8 +56,8 @@ part-keeps caller store lists part packet fails =
 
 -- ---- the whole table
 
--- A row tells of a read only where one failed, never replies UL_ERROR_RESP 3, and UL_NAK_RESP 3 only where there is this
--- row of a file that can't be read.
+-- A row reports a failed read only if one failed, never replies UL_ERROR_RESP 3, and UL_NAK_RESP 3 only if there is
+-- this row of a file that can't be read.
 record KeepsBy (fails : Bool) (unread : Option upload.Row) (replies : List PacketValue) : Type 0 where
   reads : fails ≡ false → Silent replies
   writes : (fails ≡ true → unread ≡ None) → AllByRecursion IsNoFault replies
@@ -138,7 +138,7 @@ fault_codes caller moment store lists state item =
 
 -- ---- what is sent next
 
--- what is sent next tells of a read only where one failed, and of no write
+-- what is sent next reports a failed read only if one failed, and no failed write
 record KeepsOne (fails : Bool) (packet : PacketValue) : Type 0 where
   reads : fails ≡ false → tells_failed_read packet ≡ false
   writes : IsNoFault packet
@@ -151,7 +151,7 @@ both-first : (a b : Bool) → (a && b) ≡ true → a ≡ true
 both-first true b is = refl
 both-first false b is = absurd (true≢false (sym is))
 
--- code 3 only where a read fails
+-- code 3 only if a read fails
 packet-keeps : (store : Store) (state : DownloadState) (fails : Bool) → KeepsOne fails (due.due_packet store state fails).packet
 packet-keeps store state fails =
     let failed : due.DuePacket = record { packet = dl_error_resp 3; state = download.ready } in

@@ -1,11 +1,11 @@
--- A session over events, and others behind them.
+-- A session over events, and others after them.
 use Rattle.std.proofs.Common.{List, [], ◌∷◌, ◌++◌, refl, ap, sym, ◌∙◌, append_assoc}
 use Rattle.ftl0_session.specs.Run.{Event as MetEvent}
 use Rattle.ftl0_session.specs.RunLaws.{ComesTo, RunsLaw}
 use Rattle.ftl0_session.proofs.Names.{CallSign, PacketValue, CallerList, Command, after_all, Store, RunsOver, event_row, session_over, Row, State}
 use Rattle.ftl0_session.proofs.RunLemmas.{commands}
 
--- each event was come to, behind the earlier ones
+-- each event was reached, after the earlier ones
 comes-to :
     (caller : CallSign) (store : Store) (lists : List CallerList) (state : State) (earlier : List MetEvent) (next : MetEvent) (later : List MetEvent) (said : List PacketValue) (commands : List Command)
     (now : Store) (lists_n : List CallerList) (last : State)

@@ -78,7 +78,7 @@ download-busy caller store files lists phase.Command part packet fails busy = ab
 download-busy caller store files lists (phase.Receiving up) part packet fails busy = refl
 download-busy caller store files lists phase.Aborting part packet fails busy = refl
 
--- so where there is one the session waits for a command as far as uploading goes
+-- so if there is one, the session waits for a command as far as uploading goes
 pub download-command : (caller : CallSign) (store : Store) (files : StoreState) (lists : List CallerList) (here : Phase) (part : DownloadState) (item : Item) (fails : Bool) (row : DownloadRow)
     → download_row caller store lists (state_by (state_of files here) part) item fails ≡ Some row → here ≡ phase.Command
 download-command caller store files lists phase.Command part item fails row is = refl

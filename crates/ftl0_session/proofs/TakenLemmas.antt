@@ -23,7 +23,7 @@ row-passed : {D : Type 0} (o : Option DownloadRow) (disk disk_now : D) (before n
 row-passed None disk disk_now before now is = (refl, is.2)
 row-passed (Some row) disk disk_now before now is = absurd (let e : false ≡ true = is.0 in cc)
 
--- what is said of a row that there is
+-- what is claimed for a row that there is
 is_some_at : {A : Type 0} {o : Option A} (P : A → Type 0) (x : A) → o ≡ Some x → IsSomeAnd o P → P x
 is_some_at P x is holds = subst (λ o. IsSomeAnd o P) is holds
 
@@ -70,7 +70,7 @@ gives-still row fails lists_now next replies given is none lists_are state_is te
 }
 
 module _ {D : Type 0} (g : Ghosts D) where
-  -- what the next packet needs, where the store stayed
+  -- what the next packet needs, if the store stayed
   pub may-still : (uploads : Uploading) (part part_now : DownloadState) (store store_now : StoreState) (lists lists_now : List CallerList) (disk disk_now : D)
       → MayTake g store disk lists (session_of uploads part) → KeepsFiles g store store_now disk_now lists_now part_now
       → MayTake g store disk_now lists_now (session_of uploads part_now)

@@ -8,9 +8,9 @@ use Rattle.ftl0_session.specs.Taking.{TakesPacket}
 use Rattle.ftl0_session.proofs.Names.{⊤, Result, Ok, Err, list_any, option_map, list_any-append, CallSign, Ghosts, Item, PacketValue, dl_error_resp, packet_text, among-same, at_told, Does-none, does-among, reads-only, Store, IsKnown, IsReady, StoreState, store_on, CutsOffAmongReads, DoesAmongReads, one_if, Failure, failed_reads, failed_write, is_read_fault, is_write_fault, read_fails, write_fails, DiskFault, IsDue, PutsDue, DuePacket, Row, State, download_part, in_session, next_due, row_at, failed_reads_told, tells_failed_read, TellsRead, Working, row_over, filled, packet_of, at}
 use Rattle.ftl0_session.proofs.FaultLemmas.{due_codes, fault_codes}
 
--- ---- a read that failed is told, and no other
+-- ---- a read that failed is reported, and no other
 
--- a row's replies tell of a read that failed exactly where one did
+-- a row's replies report a read that failed exactly when one did
 pub told-is : (caller : CallSign) (moment : ℕ) (files : Store) (item : Item) (before : Working) (fails : Bool) → (fails ≡ true → TellsRead (row_over caller moment files before item fails).replies)
     → failed_reads_told (row_over caller moment files before item fails).replies ≡ one_if fails
 told-is caller moment files item before true told = let one = told refl in ap failed_reads_told one.1 ∙ ap (λ (b : Bool). one_if b + 0) one.2
@@ -22,7 +22,7 @@ pub told-due : (store : Store) (state : State) (fails : Bool) (next : DuePacket)
 told-due store state true next is told = ap tells_failed_read (at_told (λ (sent : DuePacket). sent.packet ≡ dl_error_resp 3) next is (told refl))
 told-due store state false next is told = at_told (λ (sent : DuePacket). tells_failed_read sent.packet ≡ false) next is (due_codes store state).0
 
--- packets joined tell of as many as they do together
+-- packets joined report as many as they do together
 pub told-append : (xs ys : List PacketValue) → failed_reads_told (xs ++ ys) ≡ failed_reads_told xs + failed_reads_told ys
 told-append [] ys = sym (zero-add (failed_reads_told ys))
 told-append (x ∷ xs) ys =
@@ -35,7 +35,7 @@ module _ {D : Type 0} (g : Ghosts D) (on : (first second third : D) → g.lasts 
   abbrev files : Store
   files = store_on g before.store disk
 
-  -- how many reads its row tells of
+  -- how many reads its row reports
   missed-is : (result : Result ⊤ DiskFault) (takes : TakesPacket g (packet_of caller moment item) (at before disk) (at now disk_now) replies result)
       → one_if takes.fails ≡ failed_reads_told (row_over caller moment files before item takes.fails).replies
   missed-is result takes = sym (told-is caller moment files item before takes.fails (takes.told known))
@@ -132,7 +132,7 @@ pub writes-unlisted : (parts : List ℕ) (part : ℕ) → write_fails (failed_re
 writes-unlisted [] part = refl
 writes-unlisted (number ∷ parts) part = ap₂ (λ (a b : Bool). a || b) (and-false (number == part)) (writes-unlisted parts part)
 
--- behind others
+-- after others
 pub reads-behind : (before behind : List Failure) (part : ℕ) → read_fails (before ++ behind) part ≡ (read_fails before part || read_fails behind part)
 reads-behind before behind part = list_any-append (λ failure. (failure.part == part) && is_read_fault failure.fault) before behind
 
@@ -146,7 +146,7 @@ write-listed number part = or-false ((number == part) && true) ∙ and-true (num
 pub write-unread : (number part : ℕ) → read_fails (failed_write number) part ≡ false
 write-unread number part = or-false ((number == part) && false) ∙ and-false (number == part)
 
--- the row of a packet, and what is sent, as the part of an event whose failures list it where a read fails
+-- the row of a packet, and what is sent, as the part of an event whose failures list it if a read fails
 pub row-at : (caller : CallSign) (moment : ℕ) (files : Store) (item : Item) (before : Working) (failures : List Failure) (part : ℕ) (fails : Bool) → read_fails failures part ≡ fails
     → row_over caller moment files before item fails ≡ row_at caller moment files before.lists before.state item failures part
 row-at caller moment files item before failures part fails is = ap (λ (b : Bool). row_over caller moment files before item b) (sym is)

@@ -24,7 +24,7 @@ SendsTo store state failures part (packet ∷ packets) now =
     × SendsTo store next failures (suc part) packets now
 
 -- These packets are sent from the state on, one after another, the first as the event's part of this number; others may
--- be due behind them.
+-- be due after them.
 abbrev pub SendsSome : Store → State → List Failure → ℕ → List PacketValue → Type 0
 SendsSome store state failures part [] = ⊤
 SendsSome store state failures part (packet ∷ packets) =
@@ -32,7 +32,7 @@ SendsSome store state failures part (packet ∷ packets) =
     × SendsSome store next failures (suc part) packets
 
 -- A packet was taken, which leaves these lists and this state: the answer to it is its row's replies, and so far these
--- packets that are due behind them. Reads may have failed at some of its parts up to there.
+-- packets that are due after them. Reads may have failed at some of its parts up to there.
 pub record IsAnswering (caller : CallSign) (start : Session) (event : Heard) (said : List PacketValue)
     (commands : List Command) (lists : List CallerList) (state : State) : Type 0 where
   pub parts : List ℕ

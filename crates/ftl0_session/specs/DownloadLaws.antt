@@ -41,7 +41,7 @@ SentLaw =
     → SendsAll store (downloading state) failures part (octets_due store state) (downloading (state_at_end state))
 
 -- Over this event a session that waits for a command says DATA with these octets, one after another, and then DATA_END.
--- It does no command of the store, and comes to these lists and this state.
+-- It does no command of the store, and ends with these lists and this state.
 pub record SaysAll (caller : CallSign) (store : Store) (lists : List CallerList) (event : Event) (octets : List ℕ)
     (lists_now : List CallerList) (next : State) : Type 0 where
   pub pieces : List (List ℕ)
@@ -52,7 +52,7 @@ pub record SaysAll (caller : CallSign) (store : Store) (lists : List CallerList)
 
 -- A complete file that is asked for from an offset on, up to its length, is sent exactly from there to its end: the
 -- file of the number that is asked for, or for number 0 the first that is left in the caller's list, from which it is
--- taken. Then the word is waited for that it came.
+-- taken. Then DL_ACK_CMD or DL_NAK_CMD is waited for.
 abbrev pub DownloadedLaw : Type 0
 DownloadedLaw =
     (caller : CallSign) (store : Store) (lists : List CallerList) (event : Event) (asked number offset : ℕ)

@@ -36,7 +36,7 @@ GrantedLaw =
     → session_row caller moment store lists command (Ok (upload_cmd 0 file_length)) fails
     ≡ by_upload lists (upload.granted_row caller moment store.next file_length)
 
--- The caller's own file that is under way goes on, at the place behind the octets that are held, and no other.
+-- The caller's own file that is under way goes on, at the place after the octets that are held, and no other.
 abbrev pub ResumedLaw : Type 0
 ResumedLaw =
     (caller : CallSign) (moment : ℕ) (store : Store) (lists : List CallerList) (number : ℕ) (entry : Entry)
@@ -45,8 +45,8 @@ ResumedLaw =
     ≡ by_upload lists (upload.resumed_row number (length held))
 
 -- The row replies UL_ACK_RESP, and leaves the lists. After its commands the entry is complete with exactly the octets
--- of the file, stamped. What is kept has the client's body, and the client's items but for those that the server fills
--- in.
+-- of the file, stamped. What is kept has the client's body, and the client's items except for those that the server
+-- fills in.
 pub record Acknowledges (store : Store) (lists : List CallerList) (number : ℕ) (entry : Entry) (file : List ℕ)
     (moment : ℕ) (row : Row) : Type 0 where
   pub state : row.state ≡ command
@@ -55,7 +55,7 @@ pub record Acknowledges (store : Store) (lists : List CallerList) (number : ℕ)
   pub entry_now : entry_of (after_all store row.commands) number ≡ Some (kept entry file moment)
   pub client : IsCall entry.caller → IsOctets file → KeepsClient file (stamped (stamp_of moment entry) file)
 
--- A file of which all octets came, and which has no fault, is acknowledged where no read fails.
+-- A file of which all octets came, and which has no fault, is acknowledged if no read fails.
 abbrev pub AcknowledgedLaw : Type 0
 AcknowledgedLaw =
     (caller : CallSign) (moment : ℕ) (store : Store) (lists : List CallerList) (number : ℕ) (entry : Entry)
@@ -73,7 +73,7 @@ pub record HoldsAll (store : Store) (lists : List CallerList) (number : ℕ) (en
   pub replies : row.replies ≡ ul_nak_resp (octet_of error.ServerFsys) ∷ []
   pub under_way : IsUnderWay (after_all store row.commands) number (holding entry octets) octets
 
--- Where a read fails, a file of which all octets came isn't acknowledged, and all its octets are held.
+-- If a read fails, a file of which all octets came isn't acknowledged, and all its octets are held.
 abbrev pub UnreadLaw : Type 0
 UnreadLaw =
     (caller : CallSign) (moment : ℕ) (store : Store) (lists : List CallerList) (number : ℕ) (entry : Entry)
@@ -81,8 +81,8 @@ UnreadLaw =
     → HoldsAll store lists number entry (held ++ rest)
     (session_row caller moment store lists (receiving number rest) (Ok data_end) true)
 
--- The row comes behind these commands, has commands and replies UL_ACK_RESP. In each image that stands for the store
--- after at least these commands and the row's, whatever commands come behind them, this is the entry of the number.
+-- The row comes after these commands, has commands and replies UL_ACK_RESP. In each image that stands for the store
+-- after at least these commands and the row's, whatever commands come after them, this is the entry of the number.
 pub record StandsAcknowledged (row : Row) (start : Store) (commands : List Command) (number : ℕ) (entry : Entry) :
     Type 0 where
   pub replies : row.replies ≡ ul_ack_resp ∷ []
@@ -93,8 +93,8 @@ pub record StandsAcknowledged (row : Row) (start : Store) (commands : List Comma
       → MakesBetween least most start (commands ++ (row.commands ++ others)) image
       → HasEntry number entry image
 
--- DATA_END's row where no read fails, over the store that these commands come to, is so, whatever they were, of this
--- session or of others: the file's entry is then complete with the octets that came, stamped.
+-- DATA_END's row, if no read fails, over the store that these commands give, is so, whatever they were, of this session
+-- or of others: the file's entry is then complete with the octets that came, stamped.
 abbrev pub AcknowledgedStandsLaw : Type 0
 AcknowledgedStandsLaw =
     (caller : CallSign) (start store : Store) (lists : List CallerList) (commands : List Command)
@@ -103,8 +103,8 @@ AcknowledgedStandsLaw =
     → StandsAcknowledged (session_row caller moment store lists (receiving number rest) (Ok data_end) false) start
     commands number (kept entry (held ++ rest) moment)
 
--- Where no read fails the row tells of none, and replies neither UL_ERROR_RESP 3 nor UL_NAK_RESP 3. Where one fails it
--- doesn't reply UL_ERROR_RESP 3 either, and UL_NAK_RESP 3 only where there is this row of a file that can't be read.
+-- If no read fails, the row reports none, and replies neither UL_ERROR_RESP 3 nor UL_NAK_RESP 3. If one fails, it
+-- doesn't reply UL_ERROR_RESP 3 either, and UL_NAK_RESP 3 only if there is this row of a file that can't be read.
 pub record KeepsFaultCodes (row : Bool → Row) (unread : Option upload.Row) : Type 0 where
   pub reads : failed_reads_told (row false).replies ≡ 0
   pub writes : AllByRecursion IsNoFault (row false).replies
@@ -112,15 +112,15 @@ pub record KeepsFaultCodes (row : Bool → Row) (unread : Option upload.Row) : T
   pub naks :
       unread ≡ None → AllByRecursion (λ reply. reply ≢ ul_nak_resp (octet_of error.ServerFsys)) (row true).replies
 
--- Code 3 comes by DL_ERROR_RESP only where a read of the disk fails, by UL_NAK_RESP only where one fails at DATA_END of
--- a whole file, and by UL_ERROR_RESP in no row of the table: else it comes only where a write or a sync fails.
+-- Code 3 comes by DL_ERROR_RESP only if a read of the disk fails, by UL_NAK_RESP only if one fails at DATA_END of a
+-- whole file, and by UL_ERROR_RESP in no row of the table: else it comes only if a write or a sync fails.
 abbrev pub FaultCodeLaw : Type 0
 FaultCodeLaw =
     (caller : CallSign) (moment : ℕ) (store : Store) (lists : List CallerList) (state : State) (item : Item)
     → KeepsFaultCodes (session_row caller moment store lists state item)
     (upload.row_unread store (upload_part state) item)
 
--- What is sent next tells of a read only where one fails, and replies neither UL_ERROR_RESP 3 nor UL_NAK_RESP 3.
+-- What is sent next reports a failed read only if one fails, and replies neither UL_ERROR_RESP 3 nor UL_NAK_RESP 3.
 abbrev pub DueFaultLaw : Type 0
 DueFaultLaw =
     (store : Store) (state : State)

@@ -1,4 +1,4 @@
--- A session over events without a link. An event is a packet, which is its first part, and all that is due right behind
+-- A session over events without a link. An event is a packet, which is its first part, and all that is due right after
 -- the replies to it, one DATA or DATA_END a part.
 use Rattle.std.specs.Prelude.{◌≡◌, ℕ, suc, List, [], ◌∷◌, ◌++◌, map, true, None, Some}
 use Rattle.std.specs.List.{AllByRecursion}
@@ -44,8 +44,8 @@ Sends store state failures part (packet ∷ packets) now =
     (next : State) × (due_at store state failures part ≡ Some (record { packet = packet; state = next }))
     × Sends store next failures (suc part) packets now
 
--- Over these events, of whose failures the reads alone count, the session comes from one store, lists and state
--- to another: it says these packets, all that is due right behind each packet's replies, and does these commands.
+-- Over these events, of whose failures the reads alone count, the session comes from one store, lists and state to
+-- another: it says these packets, all that is due right after each packet's replies, and does these commands.
 abbrev pub RunsOver : CallSign → Session → List Event → List PacketValue → List Command → Session → Type 0
 RunsOver caller before [] said commands now =
     (said ≡ []) × (commands ≡ []) × (now.store ≡ before.store) × (now.lists ≡ before.lists)
@@ -57,7 +57,7 @@ RunsOver caller before (event ∷ events) said commands now =
     × (said ≡ row.replies ++ (sent ++ more)) × (commands ≡ row.commands ++ others)
     × RunsOver caller (session_over (after_all before.store row.commands) row.lists state_then) events more others now
 
--- the store that a session comes to is the one after its commands
+-- the store that a session ends with is the one after its commands
 abbrev pub CommandsLaw : Type 0
 CommandsLaw =
     (caller : CallSign) (store : Store) (lists : List CallerList) (state : State) (events : List Event)

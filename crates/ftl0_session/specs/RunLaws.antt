@@ -8,8 +8,8 @@ use Rattle.file_store.specs.Store.{Store}
 use Rattle.ftl0_session.specs.Run.{Event, RunsOver, event_row, session_over}
 use Rattle.ftl0_session.specs.Table.{State}
 
--- A session that did these commands came to this event behind the earlier ones, over a store and lists and in a state.
--- The commands of the event's row are behind those of the earlier events, and others are behind them.
+-- A session that did these commands reached this event after the earlier ones, over a store and lists and in a state.
+-- The commands of the event's row come after those of the earlier events, and others come after them.
 pub record ComesTo (caller : CallSign) (start : Store) (lists : List CallerList) (state : State) (earlier : List Event)
     (next : Event) (commands : List Command) : Type 0 where
   pub said : List PacketValue
@@ -24,7 +24,7 @@ pub record ComesTo (caller : CallSign) (start : Store) (lists : List CallerList)
   pub commands_are :
       commands ≡ before ++ ((event_row caller store_then lists_then state_then next).commands ++ others)
 
--- Over the events that a session went over: the store that it came to is the one after its commands, and it came to
+-- Over the events that a session went over: the store that it ended with is the one after its commands, and it reached
 -- each of them.
 pub record RunsLaw : Type 0 where
   pub store :

@@ -38,7 +38,7 @@ pub record WorkingOn (D : Type 0) : Type 0 where
 abbrev pub working_on : {D : Type 0} → StoreState → List CallerList → D → WorkingOn D
 working_on store lists disk = record { store = store; lists = lists; disk = disk }
 
--- the state of the table that it is in: the octets that wait to be held are the store's to tell
+-- the state of the table that it is in: the store says which octets wait to be held
 abbrev pub state_in : StoreState → SessionState → State
 state_in store session = state_by (upload.state_of store session.uploads.phase) session.downloads
 
@@ -58,7 +58,7 @@ pub record MayTake {D : Type 0} (g : Ghosts D) (store : StoreState) (disk : D) (
   pub due : IsDueIn (store_in store) session.downloads
   pub complete : AreComplete (store_in store) lists
 
--- What a session leaves for the next packet, whatever came: the store stands on the disk, or has failed; it holds the
+-- What a session leaves for the next packet, whatever came: the store is on the disk, or has failed; it holds the
 -- session's upload, and no other of the caller is out; what is due lies within complete files, and so do the lists.
 pub record IsFit {D : Type 0} (g : Ghosts D) (store : StoreState) (disk : D) (lists : List CallerList)
     (session : SessionState) : Type 0 where

@@ -18,7 +18,7 @@ use Rattle.ftl0_session.specs.Downloads.Table.{DownloadRow, DownloadState, Due}
 
 -- A session waits for a command; or receives the file of this number, of which these octets aren't held yet; or waits
 -- for the end of a file that it refused; or sends the file of this number from one place up to another; or waits for
--- the word that the file came; or sends headers, of which these are still due.
+-- DL_ACK_CMD or DL_NAK_CMD; or sends headers, of which these are still due.
 pub data State : Type 0 where
   command : State
   receiving : ℕ → List ℕ → State
@@ -96,8 +96,8 @@ error_row lists state item =
       replies = error_by (upload.is_upload_kind (kind_of_item item)) ∷ [];
     }
 
--- The packet's row of uploading, where a read fails or none does, if it has one: none while something is sent or
--- listed, or the word is waited for that a file came.
+-- The packet's row of uploading, whether a read fails or none does, if it has one: none while something is sent or
+-- listed, or DL_ACK_CMD or DL_NAK_CMD is waited for.
 abbrev pub upload_row : CallSign → ℕ → Store → State → Item → Bool → Option upload.Row
 upload_row caller moment store command item fails =
     upload.row_by_read caller moment store upload.command item fails
@@ -107,8 +107,8 @@ upload_row caller moment store aborting item fails =
     upload.row_by_read caller moment store upload.aborting item fails
 upload_row caller moment store state item fails = None
 
--- The packet's row of downloading, where a read fails or none does, if it has one: none while a file is received, or
--- the end of a refused one is waited for, and none where it is malformed.
+-- The packet's row of downloading, whether a read fails or none does, if it has one: none while a file is received, or
+-- the end of a refused one is waited for, and none if it is malformed.
 abbrev pub download_row : CallSign → Store → List CallerList → State → Item → Bool → Option DownloadRow
 download_row caller store lists state (Err malformed) fails = None
 download_row caller store lists (receiving number rest) (Ok packet) fails = None
@@ -116,20 +116,20 @@ download_row caller store lists aborting (Ok packet) fails = None
 download_row caller store lists state (Ok packet) fails =
     download.download_row caller store lists (download_part state) packet fails
 
--- the one of these rows that there is; error 1 where there is none
+-- the one of these rows that there is; error 1 if there is none
 abbrev pub row_among : List CallerList → State → Item → Option upload.Row → Option DownloadRow → Row
 row_among lists state item (Some row) other = by_upload lists row
 row_among lists state item None (Some row) = by_download row
 row_among lists state item None None = error_row lists state item
 
 -- The table: what a packet, malformed or not, gives in a state, over a store and the lists of all callers, at a moment,
--- where a read of the disk fails or none does.
+-- whether a read of the disk fails or none does.
 unfoldable pub session_row : CallSign → ℕ → Store → List CallerList → State → Item → Bool → Row
 session_row caller moment store lists state item fails =
     row_among lists state item (upload_row caller moment store state item fails)
     (download_row caller store lists state item fails)
 
--- The reply to a packet at whose row a write or a sync of the disk failed: code 3, by UL_NAK_RESP where a file is
+-- The reply to a packet at whose row a write or a sync of the disk failed: code 3, by UL_NAK_RESP if a file is
 -- received, else by UL_ERROR_RESP.
 abbrev pub fault_reply : State → PacketValue
 fault_reply state = upload.fault_reply (upload_part state)
@@ -151,12 +151,12 @@ pub record DuePacket : Type 0 where
 abbrev pub in_session : due.DuePacket → DuePacket
 in_session next = record { packet = next.packet; state = downloading next.state }
 
--- What a session sends next of itself in a state, where a read fails or none does; nothing but while a file is sent or
--- headers are.
+-- What a session sends next by itself in a state, whether a read fails or none does; nothing except while a file is
+-- sent or headers are.
 abbrev pub next_due : Store → State → Bool → Option DuePacket
 next_due store state fails = option_map in_session (due.next_due store (download_part state) fails)
 
--- whether a reply of a row, or a packet that is sent, tells that a read of the disk failed: DL_ERROR_RESP or
+-- whether a reply of a row, or a packet that is sent, reports that a read of the disk failed: DL_ERROR_RESP or
 -- UL_NAK_RESP with code 3
 abbrev pub tells_failed_read : PacketValue → Bool
 tells_failed_read (dl_error_resp code) = code == octet_of error.ServerFsys
@@ -168,8 +168,7 @@ abbrev pub failed_reads_told : List PacketValue → ℕ
 failed_reads_told [] = 0
 failed_reads_told (packet ∷ packets) = one_if (tells_failed_read packet) + failed_reads_told packets
 
--- The row of a packet that is the part of this number of an event with these failures: a read fails where they list
--- one.
+-- The row of a packet that is the part of this number of an event with these failures: a read fails if they list one.
 abbrev pub row_at : CallSign → ℕ → Store → List CallerList → State → Item → List Failure → ℕ → Row
 row_at caller moment store lists state item failures part =
     session_row caller moment store lists state item (read_fails failures part)

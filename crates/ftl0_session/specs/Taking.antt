@@ -39,7 +39,7 @@ working session store lists = record { store = store; lists = lists; state = sta
 abbrev pub files_at : {D : Type 0} → Ghosts D → AtDisk Working D → Store
 files_at g here = store_on g here.it.store here.disk
 
--- the packet's row over this store, where a read fails or none does
+-- the packet's row over this store, whether a read fails or none does
 abbrev pub row_over : CallSign → ℕ → Store → Working → Item → Bool → Row
 row_over caller moment files before item fails =
     session_row caller moment files before.lists before.state item fails
@@ -63,10 +63,10 @@ abbrev pub Answers :
 Answers g before row now replies (Ok done) = Gives g before row now replies
 Answers g before row now replies (Err fault) = ⊤
 
--- What a packet with this row does to the disk. Where it is answered, the row's commands are done, among reads of which
+-- What a packet with this row does to the disk. If it is answered, the row's commands are done, among reads of which
 -- one failed or none; or a write or a sync failed in one of them, and no read. A crash since the packet came leaves the
--- store after the first so many of them, and the disk gets no longer than a store of so many blocks may be, or than it
--- was.
+-- store after the first of them, for some number of them, and the disk gets no longer than a store of this number of
+-- blocks may be, or than it was.
 abbrev pub PutsRow :
     {D : Type 0} → Ghosts D → Bool → Row → AtDisk Working D → AtDisk Working D → Result ⊤ DiskFault → Type 0
 PutsRow g fails row before now (Ok done) =
@@ -74,8 +74,8 @@ PutsRow g fails row before now (Ok done) =
 PutsRow g fails row before now (Err fault) =
     DoesAmongReads g ⊤ 0 before.it.store now.it.store before.disk now.disk row.commands
 
--- What a write or a sync of the disk that failed leaves, whatever the disk tells. No read failed, code 3 is replied,
--- the lists stay, and a command is waited for.
+-- What a write or a sync of the disk that failed leaves, whatever is observed of the disk. No read failed, code 3 is
+-- replied, the lists stay, and a command is waited for.
 abbrev pub IsStopped :
     {D : Type 0} → Bool → AtDisk Working D → AtDisk Working D → List ℕ → Result ⊤ DiskFault → Type 0
 IsStopped fails before now replies (Ok done) = ⊤
@@ -83,20 +83,20 @@ IsStopped fails before now replies (Err fault) =
     (fails ≡ false) × (now.it.state ≡ command) × (now.it.lists ≡ before.it.lists)
     × (replies ≡ texts (fault_reply before.it.state ∷ []))
 
--- The packet's row over what memory tells is this one, whether a read fails or none does: no octet of a file is looked
+-- The packet's row over what memory shows is this one, whether a read fails or none does: no octet of a file is looked
 -- at for it.
 abbrev pub LooksAtNone : CallerPacket → Working → Row → Type 0
 LooksAtNone packet before row =
     (fails : Bool) → row_over packet.caller packet.moment (store_in before.store) before packet.item fails ≡ row
 
--- the answer to a packet is this row of the table, whatever the disk tells
+-- the answer to a packet is this row of the table, whatever is observed of the disk
 abbrev pub AnswersAnyway : Row → Working → List ℕ → Result ⊤ DiskFault → Type 0
 AnswersAnyway row now replies (Ok done) =
     (now.lists ≡ row.lists) × (now.state ≡ row.state) × (replies ≡ texts row.replies)
 AnswersAnyway row now replies (Err fault) = ⊤
 
--- What a packet with this row gives and does to the disk, whatever the disk tells. No read failed. Where it is
--- answered, memory tells the store after the row's commands.
+-- What a packet with this row gives and does to the disk, whatever is observed of the disk. No read failed. If it is
+-- answered, memory shows the store after the row's commands.
 pub record MakesAnyway {D : Type 0} (g : Ghosts D) (row : Row) (before now : AtDisk Working D)
     (replies : List ℕ) (result : Result ⊤ DiskFault) : Type 0 where
   pub answers : AnswersAnyway row now.it replies result
@@ -104,10 +104,10 @@ pub record MakesAnyway {D : Type 0} (g : Ghosts D) (row : Row) (before now : AtD
   pub memory :
       OnOk result (store_in now.it.store ≡ after_all (store_in before.it.store) (outlined_all row.commands))
 
--- A session takes a packet, malformed or not, and a read of the disk fails or none does. Where it is known what the
--- store's files hold, the answer is the packet's row for that, which tells of a read that failed by code 3, and the
--- row's commands are done. Whatever the disk tells, so it is of a row for which no octet of a file is looked at, and
--- what is replied to any packet has code 3 only where that has its cause.
+-- A session takes a packet, malformed or not, and a read of the disk fails or none does. If it is known what the
+-- store's files hold, the answer is the packet's row for that, which reports a read that failed by code 3, and the
+-- row's commands are done. Whatever is observed of the disk, so it is of a row for which no octet of a file is looked
+-- at, and what is replied to any packet has code 3 only if that has its cause.
 pub record TakesPacket {D : Type 0} (g : Ghosts D) (packet : CallerPacket) (before now : AtDisk Working D)
     (replies : List ℕ) (result : Result ⊤ DiskFault) : Type 0 where
   pub fails : Bool
@@ -123,7 +123,7 @@ pub record TakesPacket {D : Type 0} (g : Ghosts D) (packet : CallerPacket) (befo
       → (fails ≡ false) × MakesAnyway g row before now replies result
   pub says : OnOk result (Says g before.disk fails replies)
 
--- a packet whose row has no command leaves the disk as reads do, where it is known what the store's files hold
+-- a packet whose row has no command leaves the disk as reads do, if it is known what the store's files hold
 abbrev pub ReadsAlone : {D : Type 0} → Ghosts D → Row → D → D → Type 0
 ReadsAlone g row disk disk_now = IsKnown g disk → row.commands ≡ [] → ChangesReads g disk disk_now
 
@@ -169,7 +169,7 @@ TakenOver g moment item before now replies result =
     (session_of now.uploads now.downloads) (working_on before.store before.lists before.disk)
     (working_on now.store now.lists now.disk) replies result
 
--- the packet's row of downloading over this store, if it has one: not while a file is received, and not where it is
+-- the packet's row of downloading over this store, if it has one: not while a file is received, and not if it is
 -- malformed
 abbrev pub download_row_of : SessionState → StoreState → Store → List CallerList → Item → Bool → Option DownloadRow
 download_row_of session store files lists item fails =

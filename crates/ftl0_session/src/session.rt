@@ -83,8 +83,8 @@ impl Session {
         self.uploads.caller()
     }
 
-    /// Takes a packet: one row of the session's table, or code 3 where a write or a sync of the disk fails. The replies
-    /// stand in place of what `replies` holds; the row's commands are on the disk before they are given. A read that
+    /// Takes a packet: one row of the session's table, or code 3 if a write or a sync of the disk fails. The replies
+    /// are put in place of what `replies` holds; the row's commands are on the disk before they are given. A read that
     /// fails gives the row for that, and the session goes on. Takes no memory.
     ///
     /// After a fault of the disk the upload is spent, and the store has failed. Some of the packet's octets may be
@@ -100,9 +100,9 @@ impl Session {
     ) -> Result<(), DiskFault>
         requires { MayTake D.Disk store.old disk.old lists.old self.old }
 
-        // Where it is known what the store's files hold, the answer is the packet's row for the reads that were made,
-        // and the row's commands are on the disk; or a write or a sync failed in one of them. So it is on any disk of a
-        // row for which no octet of a file is looked at; and there each code 3 has its cause. It leaves what the next
+        // If it is known what the store's files hold, the answer is the packet's row for the reads that were made, and
+        // the row's commands are on the disk; or a write or a sync failed in one of them. So it is on any disk of a row
+        // for which no octet of a file is looked at; and there each code 3 has its cause. It leaves what the next
         // packet needs.
         ensures { Taken D.Disk (packet_of (caller_of self.old) moment (item_of packet.entry)) self.old self.new
             (working_on store.old lists.old disk.old) (working_on store.new lists.new disk.new) replies.new.items
@@ -121,8 +121,8 @@ impl Session {
     }
 
     /// Puts what is due next in place of what `out` holds: DATA of the next 254 octets, the last one shorter, or
-    /// DATA_END where none is left; or code 3 in the place of a DATA whose octets can't be read, and only there. It
-    /// answers false, and nothing changed, exactly where nothing is due. It reads what it sends. Takes no memory.
+    /// DATA_END if none is left; or code 3 instead of a DATA whose octets can't be read, and only then. It answers
+    /// false, and nothing changed, exactly when nothing is due. It reads what it sends. Takes no memory.
     #[inline(always)]
     pub fn fill<D: Disk>(
         &mut self,
@@ -147,7 +147,7 @@ impl Session {
         self.downloads.fill(disk, store, out)
     }
 
-    /// Ends the session, and parks its upload. No upload of an entry of its caller is out then, if none was but the
+    /// Ends the session, and parks its upload. No upload of an entry of its caller is out then, if none was except the
     /// session's own. Takes no memory.
     pub fn end(self, store: &mut FileStore)
         requires { IsHeld store.old self.uploads }
@@ -170,8 +170,8 @@ fn flags_of(left: bool) -> u8
     if left { FLAGS + SELECTED } else { FLAGS }
 }
 
-/// Takes a packet: by its row of uploading where it is of uploading and the session does nothing of downloading, else
-/// by its row of downloading, or by error 1.
+/// Takes a packet: by its row of uploading if it is of uploading and the session does nothing of downloading, else by
+/// its row of downloading, or by error 1.
 fn take_packet<D: Disk>(
     uploads: &mut Uploads,
     downloads: &mut Downloads,
@@ -254,7 +254,7 @@ fn take_other<D: Disk>(
     refuse(of_uploading, replies);
 }
 
-/// Takes a packet that has a row of downloading. It answers false, and nothing changed, exactly where it has none.
+/// Takes a packet that has a row of downloading. It answers false, and nothing changed, exactly when it has none.
 fn take_download<D: Disk>(
     uploads: &Uploads,
     downloads: &mut Downloads,

@@ -1,4 +1,4 @@
--- Packets at the front of octets, some and then others; and the stations of a link, which stay.
+-- Packets at the beginning of octets, some and then others; and the stations of a link, which stay.
 use Rattle.std.proofs.Common.{◌≡◌, ℕ, List, [], ◌++◌, refl, ap, sym, ◌∙◌, append_assoc, append-nil}
 use Rattle.packet_link.proofs.Names.{Kept, SameStations, Item, packets_of, rest_of, HasFront}
 
@@ -11,7 +11,7 @@ front-then a b c items others first second = record {
   rest = first.rest ∙ second.rest;
 }
 
--- behind which no packet is whole
+-- after which no packet is whole
 pub front-whole : (a b rest : List ℕ) (items : List Item) → HasFront a b items → packets_of b ≡ [] → rest_of b ≡ rest → (items ≡ packets_of a) × (rest ≡ rest_of a)
 front-whole a b rest items front none left = (
   sym (front.packets ∙ ap (λ (more : List Item). items ++ more) none ∙ append-nil items),

@@ -20,7 +20,7 @@ use Rattle.ax25_link.specs.Window.{Window}
 use Rattle.ax25_link.proofs.Offered.{acknowledging-keeps}
 use Rattle.packet_link.proofs.Names.{Option, None, Some, IsTrue, nat_lt, ⊤, Bytes, after_push, Farewell, LinkEnd, Reply, ready, GivesNext, HandsOut, Kept, StandsFor, Steps, Tells, IsOpen, StandsForSome}
 
--- up, unless what was told is that the link is down
+-- up, unless what was reported is that the link is down
 abbrev pub StaysUp : Outcome → Type 0
 StaysUp o = IsOpen o.heard → o.after.state ≡ Up
 
@@ -64,7 +64,7 @@ module _ (w : Window) (end : LinkEnd) (frame : FrameValue) (up : end.state ≡ U
   pub frame-up : StaysUp (row w end frame)
   frame-up = subst (λ (s : LinkState). StaysUp (row_of_state s w end frame)) (sym up) (control-up frame.kind.control)
 
--- information that is next in the stream is told of an I frame
+-- information that is next in the stream is reported of an I frame
 abbrev TellsBytes : Control → Outcome → Type 0
 TellsBytes control o = o.heard ≡ Bytes → IsTrue (is_information control)
 

@@ -75,7 +75,7 @@ module _ {P S : Type 0} (end : S → LinkEnd) (due : S → Option P) (after : P 
   abbrev rest_of : ℕ → S → P → S
   rest_of more s packet = filling end due after more (after packet s)
 
-  -- what stands of a state, and of each with the packet queued that is due, stands once all is queued
+  -- what is true of a state, and of each with the packet queued that is due, is true once all is queued
   pub filling-keeps : (Holds : S → Type 0) → ((s : S) (packet : P) → due s ≡ Some packet → Holds s → Holds (after packet s)) → (count : ℕ) (s : S) → Holds s
       → Holds (filling end due after count s)
   filling-keeps Holds each zero s here = here
@@ -83,14 +83,14 @@ module _ {P S : Type 0} (end : S → LinkEnd) (due : S → Option P) (after : P 
       keeps-by Holds s here (rest_of more s) (nat_le enough_free (free_octets (end s))) (due s)
       (λ packet is. filling-keeps Holds each more (after packet s) (each s packet is here))
 
-  -- none, where nothing is due
+  -- none, if nothing is due
   pub filling-none : (count : ℕ) (s : S) → due s ≡ None → filling end due after count s ≡ s
   filling-none zero s none = refl
   filling-none (suc more) s none =
       keeps-by (λ (t : S). t ≡ s) s refl (rest_of more s) (nat_le enough_free (free_octets (end s))) (due s)
       (λ packet is. absurd (let no : None ≡ Some packet = sym none ∙ is in cc))
 
-  -- nor where fewer octets are free
+  -- nor if fewer octets are free
   pub filling-few : (count : ℕ) (s : S) → free_octets (end s) < enough_free → filling end due after count s ≡ s
   filling-few zero s few = refl
   filling-few (suc more) s few = ap (λ (b : Bool). filling_by b (due s) s (rest_of more s)) (is-fewer (end s) few)
@@ -104,7 +104,7 @@ module _ {P S : Type 0} (end : S → LinkEnd) (due : S → Option P) (after : P 
   same-by s later more true next each = same-due s later more next (each refl)
   same-by s later more false next each = refl
 
-  -- the same is queued where the same is due of each state that is reached
+  -- the same is queued if the same is due of each state that is reached
   pub filling-alike : (other : S → Option P) (Reached : S → Type 0) → ((s : S) → Reached s → due s ≡ other s) → ((s : S) (packet : P) → Reached s → Reached (after packet s))
       → (count : ℕ) (s : S) → Reached s → filling end due after count s ≡ filling end other after count s
   filling-alike other Reached same each zero s here = refl
@@ -138,7 +138,7 @@ module _ {P S : Type 0} (end : S → LinkEnd) (due : S → Option P) (after : P 
         ap (λ (b : Bool). filling_by b (due s) s (rest_of free s)) (is-enough (end s) enough) ∙ ap (λ (o : Option P). on_due o s (rest_of free s)) is in
         same-count (free_octets (end next)) free next (omega arith) (omega arith) ∙ sym one ∙ same-count (suc free) free s (omega arith) (omega arith)
 
-    -- what stands where nothing is due, and where fewer octets are free, stands at the end
+    -- what is true both if nothing is due and if fewer octets are free is true at the end
     module _ (Holds : S → Type 0) (none : (s : S) → due s ≡ None → Holds s) (few : (s : S) → free_octets (end s) < enough_free → Holds s) where
       ends-due : (s : S) (later : P → S) (next : Option P) → due s ≡ next → ((packet : P) → Holds (later packet)) → Holds (on_due next s later)
       ends-due s later None is each = none s is

@@ -30,7 +30,7 @@ waits-after reader now piece taken waiting octets is none left =
           (subst (λ (o : List ℕ). IsOctets o) (sym is) (IsOctets-append (under_way reader) (take taken piece) waiting.are_octets (IsOctets-take taken piece octets)));
     }
 
--- what holds of octets whatever comes later holds where nothing does
+-- what is true of octets whatever comes later is true if nothing does
 pub with-none : {X : Type 0} (f g : List ℕ → X) (u p v q : List ℕ) → ((later : List ℕ) → f (u ++ (p ++ later)) ≡ g (v ++ (q ++ later))) → f (u ++ p) ≡ g (v ++ q)
 with-none f g u p v q h = ap (λ octets. f (u ++ octets)) (sym (append-nil p)) ∙ h [] ∙ ap (λ octets. g (v ++ octets)) (append-nil q)
 

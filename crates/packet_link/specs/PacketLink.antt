@@ -36,7 +36,7 @@ pub record IsWaiting (octets : List ℕ) : Type 0 where
   pub left : rest_of octets ≡ octets
   pub are_octets : IsOctets octets
 
--- the link isn't down by what was told
+-- the link isn't down by what was reported
 abbrev pub IsOpen : Heard → Type 0
 IsOpen told = (reason : Why) → told ≡ Closed reason → ⊥
 
@@ -45,8 +45,8 @@ pub record KeepsReader (old new : PacketLinkState) : Type 0 where
   pub stations : SameStations old.link new.link
   pub reader : new.reader ≡ old.reader
 
--- Of what has a link a frame is given out exactly where one is pending, the octets of the frame that is sent next, and
--- fewer are left; else nothing changes. The state stays.
+-- What has a link gives out a frame exactly when one is pending: the octets of the frame that is sent next, and fewer
+-- are left; else nothing changes. The state stays.
 pub record GivesFrame {S : Type 0} (link : S → Kept) (old new : S) (before after : List ℕ) (answer : Bool) : Type 0
   where
     pub pending : answer ≡ is_pending (link old)
@@ -55,7 +55,7 @@ pub record GivesFrame {S : Type 0} (link : S → Kept) (old new : S) (before aft
     pub next : GivesNext (link old) (link new) before after answer
     pub state : (link new).state ≡ (link old).state
 
--- These packets are at the front of the octets before, and the octets after are behind them: the packets and the rest
+-- These packets are at the beginning of the octets before, and the octets after follow them: the packets and the rest
 -- of those before are these packets and those of the octets after, and their rest.
 pub record HasFront (before after : List ℕ) (items : List Item) : Type 0 where
   pub packets : packets_of before ≡ items ++ packets_of after

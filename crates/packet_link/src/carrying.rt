@@ -25,7 +25,7 @@ use px_base::{Call, OutOfMemory};
 use std::alloc::Global;
 use std::marker::Model;
 
-/// How many octets are free on the link at least where a packet that is due is queued.
+/// How many octets are free on the link at least when a packet that is due is queued.
 const ENOUGH_FREE: usize = 1280;
 
 /// One end of a link that carries packets, with the reader of those that come. After each frame and each tick the
@@ -51,7 +51,7 @@ impl Model for PacketLink {
 
 impl PacketLink {
     /// The end that calls ([`Link::call`]): SABM with P = 1 is pending (AX.25 2.0, 2.4.3.1). At most k I frames are
-    /// outstanding at a time; `good_k(k)` holds. Takes memory, and fails only where there is none.
+    /// outstanding at a time; `good_k(k)` holds. Takes memory, and fails only if there is none.
     pub fn call(alloc: Global, me: Call, peer: Call, k: u8) -> Result<PacketLink, OutOfMemory>
         requires { IsGoodK k }
         ensures end { IfOk result (λ it. StandsFor (window_of k) it.link (calling_end me peer)) }
@@ -66,7 +66,7 @@ impl PacketLink {
     }
 
     /// An end before its first link ([`Link::idle`]): state Down, with nothing pending. At most k I frames are
-    /// outstanding at a time; `good_k(k)` holds. Takes memory, and fails only where there is none.
+    /// outstanding at a time; `good_k(k)` holds. Takes memory, and fails only if there is none.
     pub fn idle(alloc: Global, me: Call, k: u8) -> Result<PacketLink, OutOfMemory>
         requires { IsGoodK k }
         ensures { IfOk result (λ it. it ≡ idle_link (window_of k) me) }
@@ -93,7 +93,7 @@ impl PacketLink {
         self.begin_anew();
     }
 
-    /// Takes a frame of the peer, while nothing is pending ([`Link::take`]). Where it tells `Bytes` the frame is an I
+    /// Takes a frame of the peer, while nothing is pending ([`Link::take`]). If it reports `Bytes`, the frame is an I
     /// frame, whose information ([`information`](ax25_link::information)) is next in the stream, and the link is up:
     /// `next_packet` takes it. Takes no memory.
     pub fn take(&mut self, frame: &Frame<'_>) -> Heard
@@ -110,8 +110,8 @@ impl PacketLink {
         self.link.take(frame)
     }
 
-    /// Takes these octets, next in the stream, up to the end of the packet under way, and gives those behind it; `None`
-    /// where all are taken and no packet is whole. Takes no memory.
+    /// Takes these octets, next in the stream, up to the end of the packet under way, and gives those after it; `None`
+    /// if all are taken and no packet is whole. Takes no memory.
     pub fn next_packet<'a>(&mut self, octets: &'a [u8]) -> Option<&'a [u8]>
         ensures found { IfSome result (λ left. FindsPacket self.old self.new octets.now left.now) }
         ensures none { result ≡ None → FindsNone self.old self.new octets.now }
@@ -154,8 +154,8 @@ impl PacketLink {
         self.free() >= ENOUGH_FREE
     }
 
-    /// Queues octets, as many as are free, in state Up ([`Link::push`]). Where some are free and some are given fewer
-    /// are free then. Takes no memory.
+    /// Queues octets, as many as are free, in state Up ([`Link::push`]). If some are free and some are given, fewer are
+    /// free then. Takes no memory.
     pub fn push(&mut self, octets: &[u8])
         requires { self.old.link.state ≡ LinkState.Up }
         ensures after { Steps self.old.link self.new.link (λ w end. after_push end octets.now) }
@@ -167,7 +167,7 @@ impl PacketLink {
         let _count = self.link.push(octets);
     }
 
-    /// The stream of packets that come begins anew. Takes no memory.
+    /// The stream of packets that come begins again. Takes no memory.
     pub fn begin_anew(&mut self)
         ensures octets { octets_in self.new ≡ [] }
         ensures link { self.new.link ≡ self.old.link }
@@ -175,7 +175,7 @@ impl PacketLink {
         self.reader.clear();
     }
 
-    /// Counts a tick while nothing is pending ([`Link::tick`]): why the link is down, where the peer doesn't answer any
+    /// Counts a tick while nothing is pending ([`Link::tick`]): why the link is down, if the peer doesn't answer any
     /// more (AX.25 2.0, 2.4.7.1). Takes no memory.
     pub fn tick(&mut self) -> Option<Why>
         requires { is_pending self.old.link ≡ false }
@@ -208,7 +208,7 @@ impl PacketLink {
     }
 
     /// Replaces `out` by the octets of the next pending frame, which is then sent. It is false, and changes nothing,
-    /// exactly where nothing is pending. Takes no memory.
+    /// exactly when nothing is pending. Takes no memory.
     pub fn next_out(&mut self, out: &mut ArrayVec<u8, 400>) -> bool
         ensures gives { GivesFrame {S = LinkValue} (λ it. it.link) self.old self.new
             out.old.items out.new.items result }

@@ -30,7 +30,7 @@ blocks-le limit (r ∷ runs) each =
     let sums = sum_by-cons (λ (x : Run). length x.blocks) r runs in
     omega (arith, more, (each 0 r (omega arith)).fits, sums, sum_by-cons (λ (x : Run). x.room) r runs)
 
--- where a run has room, not all blocks are taken
+-- if a run has room, not all blocks are taken
 some-free : (table : Table) (k : ℕ) → IsTable table → HasRoom table k
     → ((block : ℕ) → block < table.limit → IsTaken table block) → ⊥
 some-free table k rules room all =

@@ -12,7 +12,7 @@ kept-rooms {p = p} kept =
     let same = line-rooms p.numbers 0 p.marks p.rooms kept.line in
     (omega (arith, same), omega (arith, same, kept.shown.rules.rooms), kept.shown.rules.most)
 
--- the mark of a run: where it lies, and the run that it stands for
+-- the mark of a run: where it lies, and the run whose mark it is
 pub record IsMark (marks : List RunMark) (numbers : List ℕ) (rooms limit k : ℕ) (mark : RunMark) : Type 0 where
   pub there : k < length marks
   pub run : k < length (runs_in numbers marks)
@@ -56,7 +56,7 @@ pub same-table : (one other : Table) → one.runs ≡ other.runs → one.limit �
     → one ≡ other
 same-table one other runs limit most = λ i. record { runs = runs i; limit = limit i; most = most i }
 
--- a run without blocks comes behind the others
+-- a run without blocks comes after the others
 pub kept-beginning : {p : Parts} → IsKept p → (room : ℕ) → room ≤ p.limit - rooms_of (runs_of p)
     → IsKept (record p {
       marks = p.marks ++ record { first = p.rooms; count = 0; room = room } ∷ [];
@@ -77,7 +77,7 @@ kept-beginning {p = p} kept room fits =
 abbrev pub counting : RunMark → RunMark
 counting mark = record { first = mark.first; count = mark.count + 1; room = mark.room }
 
--- where a run has one more block, the marks are in line, and the runs so
+-- if a run has one more block, the marks are in line, and the runs so
 pub line-taking : {marks : List RunMark} {numbers : List ℕ} {rooms limit k : ℕ} {mark : RunMark}
     → IsMark marks numbers rooms limit k mark → mark.count < mark.room → (block : ℕ)
     → AreInLine 0 (set marks k (counting mark)) rooms
@@ -127,7 +127,7 @@ kept-taking {p = p} kept most k mark block more room is free passed =
           (shown-taking (table_of p most) p.taken p.lowest k block more kept.shown room free kept.taken_length passed);
     }
 
--- the marks without this one, those behind it by its places earlier
+-- the marks without this one, those after it by its places earlier
 abbrev pub marks_without : List RunMark → ℕ → ℕ → List RunMark
 marks_without marks k places = take k (remove marks k) ++ map (earlier places) (drop k (remove marks k))
 
@@ -181,7 +181,7 @@ kept-without {p = p} {k = k} {mark = mark} kept at now copied len freed free low
           (subst (λ (r : Run). All (λ (b : ℕ). low ≤ b) r.blocks) (sym at.is) each));
     }
 
--- the places of those behind it begin at its places or later
+-- the places of those after it begin at its places or later
 all-behind : (places from : ℕ) (marks : List RunMark) (end : ℕ) → places ≤ from → AreInLine from marks end
     → All (λ m. places ≤ m.first) marks
 all-behind places from [] end le line = λ k d h. omega (arith, h)

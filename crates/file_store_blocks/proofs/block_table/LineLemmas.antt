@@ -1,9 +1,9 @@
--- Marks in line, and the runs that they stand for, as numbers and marks change.
+-- Marks in line, and the runs whose marks they are, as numbers and marks change.
 use Rattle.std.proofs.Common.{◌≡◌, ◌∙◌, ℕ, zero, suc, ◌+◌, ◌-◌, ◌<◌, ◌≤◌, List, [], ◌∷◌, ◌++◌, length, map, take, drop}
 use Rattle.std.proofs.Common.{get_or, refl, ap, sym, subst, arith}
 use Rattle.file_store_blocks.proofs.block_table.Names.{drop-drop, drop-map, drop-take, map-append, take-map, take-take, sum_by-cons, AreInLine, earlier, run_in, runs_in, Run, rooms_of, RunMark}
 
--- runs in line have so many places together as from the first to the end
+-- runs in line have as many places together as from the first to the end
 pub line-rooms : (numbers : List ℕ) (from : ℕ) (marks : List RunMark) (end : ℕ) → AreInLine from marks end
     → from + rooms_of (runs_in numbers marks) ≡ end
 line-rooms numbers from [] end line = omega (arith, line)
@@ -14,7 +14,7 @@ line-rooms numbers from (mark ∷ marks) end line =
       sum_by-cons (λ (r : Run). r.room) (run_in numbers mark) (runs_in numbers marks),
     )
 
--- a mark of a line, between those before it and those behind it
+-- a mark of a line, between those before it and those after it
 pub record At (marks : List RunMark) (from end k : ℕ) (mark : RunMark) : Type 0 where
   pub before : AreInLine from (take k marks) mark.first
   pub fits : mark.count ≤ mark.room
@@ -36,7 +36,7 @@ line-join from [] mid others end line rest = subst (λ (n : ℕ). AreInLine n ot
 line-join from (mark ∷ marks) mid others end line rest =
     (line.0, line.1, line-join (from + mark.room) marks mid others end line.2 rest)
 
--- so many elements from a later place on
+-- this number of elements from a later place on
 part : (xs : List ℕ) (from more count : ℕ)
     → drop more (take (more + count) (drop from xs)) ≡ take count (drop (from + more) xs)
 part xs from more count = drop-take more count (drop from xs) ∙ ap (take count) (drop-drop more from xs)
@@ -44,7 +44,7 @@ part xs from more count = drop-take more count (drop from xs) ∙ ap (take count
 fewer : (c n : ℕ) (xs ys : List ℕ) → c ≤ n → take n xs ≡ take n ys → take c xs ≡ take c ys
 fewer c n xs ys h same = sym (take-take c n xs h) ∙ ap (take c) same ∙ take-take c n ys h
 
--- runs whose numbers came so many places to the front
+-- runs whose numbers came this number of places nearer to the beginning
 moved : (numbers now : List ℕ) (places from : ℕ) (marks : List RunMark) (end : ℕ) → AreInLine (from + places) marks end
     → ((c : ℕ) → from + places + c ≤ end → take c (drop from now) ≡ take c (drop (from + places) numbers))
     → AreInLine from (map (earlier places) marks) (end - places)
@@ -74,7 +74,8 @@ earlier-none (mark ∷ marks) =
     let first : mark.first - 0 ≡ mark.first = omega arith in
     λ i. record { first = first i; count = mark.count; room = mark.room } ∷ earlier-none marks i
 
--- marks in line where others take the place of one, and those behind it come so many places to the front
+-- marks in line when others take the place of one, and those after it come this number of places nearer to the
+-- beginning
 pub changed : (numbers now : List ℕ) (marks : List RunMark) (end k places to : ℕ) (mark : RunMark)
     → At marks 0 end k mark → (mid : List RunMark) → AreInLine mark.first mid to → to + places ≡ mark.first + mark.room
     → take mark.first now ≡ take mark.first numbers

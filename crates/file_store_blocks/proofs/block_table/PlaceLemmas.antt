@@ -1,4 +1,4 @@
--- Where a block stands: a block that is taken stands at one place of one run.
+-- Where a block is: a block that is taken is at one place of one run.
 use Rattle.std.proofs.Common.{◌≡◌, ℕ, suc, ◌+◌, ◌<◌, ◌≤◌, ◌==◌, cond, List, [], ◌∷◌, length, take}
 use Rattle.std.proofs.Common.{get_or, inl, inr, ap, sym, subst, arith}
 use Rattle.file_store_blocks.specs.BlockTable.Laws.{Stands, StandsAt}
@@ -31,7 +31,7 @@ only-at f xs i j d lt lto once here there = grind (arith, two-at f xs i j d, two
 abbrev is_block : ℕ → ℕ → ℕ
 is_block block b = cond (b == block) 1 0
 
--- a block that is taken stands in a run, and the other way round
+-- a block that is taken is in a run, and the other way round
 pub taken-stands : (table : Table) (block : ℕ) → IsTaken table block → Stands table block
 taken-stands table block taken =
     let run = some-at (times_in block) table.runs (new_run 0) taken in

@@ -8,7 +8,7 @@ pub All-remove : {X : Type 0} (P : X → Type 0) (xs : List X) (k : ℕ) → All
 All-remove P xs k all =
     All-append P (take k xs) (drop (suc k) xs) (All-take P k xs all) (All-drop P (suc k) xs all)
 
--- how often a block stands in runs where one has one more block
+-- how often a block occurs in runs if one has one more block
 times-taking : (table : Table) (run block b : ℕ) → run < length table.runs
     → times_of b (after_taking table run block).runs ≡ times_of b table.runs + cond (block == b) 1 0
 times-taking table run block b there =

@@ -1,4 +1,4 @@
--- How the code keeps a table: the numbers of all runs in one list, each run's behind the earlier ones', and a mark for
+-- How the code keeps a table: the numbers of all runs in one list, each run's after the earlier ones', and a mark for
 -- each block.
 use Rattle.std.specs.Prelude.{◌≡◌, ◌↔◌, ℕ, ◌+◌, ◌-◌, ◌<◌, ◌≤◌, ◌==◌, Bool, false, true, List, [], ◌∷◌, length, map}
 use Rattle.std.specs.Prelude.{take, drop, cond, count_by, slice_index_or, IsTrue}
@@ -25,14 +25,14 @@ runs_in numbers marks = map (run_in numbers) marks
 abbrev pub runs_of : Parts → List Run
 runs_of parts = runs_in parts.numbers parts.marks
 
--- The places of the first run begin at `from`, those of each other one behind the one before it, and those of the last
+-- The places of the first run begin at `from`, those of each other one after the one before it, and those of the last
 -- end at `end`. No run has more blocks than places.
 abbrev pub AreInLine : ℕ → List RunMark → ℕ → Type 0
 AreInLine from [] end = from ≡ end
 AreInLine from (mark ∷ marks) end =
     (mark.first ≡ from) × (mark.count ≤ mark.room) × AreInLine (from + mark.room) marks end
 
--- the run's places begin so many places earlier
+-- the run's places begin this number of places earlier
 abbrev pub earlier : ℕ → RunMark → RunMark
 earlier places mark = record { first = mark.first - places; count = mark.count; room = mark.room }
 
@@ -46,7 +46,7 @@ pub record AreShown (runs : List Run) (limit : ℕ) (taken : List Bool) (lowest 
   pub marked : AreMarked runs taken
   pub lower : (block : ℕ) → block < lowest → 1 ≤ times_of block runs
 
--- what holds of the parts of a table
+-- what is true of the parts of a table
 pub record IsKept (parts : Parts) : Type 0 where
   pub line : AreInLine 0 parts.marks parts.rooms
   pub numbers_length : length parts.numbers ≡ parts.limit
@@ -64,7 +64,7 @@ pub record IsFirstFree (taken : List Bool) (from first : ℕ) : Type 0 where
   pub free : slice_index_or taken first false ≡ false
   pub passed : (block : ℕ) → from ≤ block → block < first → slice_index_or taken block false ≡ true
 
--- how often a block stands in this list
+-- how often a block occurs in this list
 abbrev pub times_among : ℕ → List ℕ → ℕ
 times_among block blocks = count_by (λ b. b == block) blocks
 

@@ -4,17 +4,17 @@ use Rattle.file_store_blocks.specs.BlockTable.Table.{HasRoom, IsFree, IsTable, I
 use Rattle.file_store_blocks.specs.BlockTable.Table.{after_taking, left_in}
 use Rattle.file_store_blocks.specs.BlockTable.Table.{new_table, run_at, without}
 
--- the block at this place of this run, where both are there
+-- the block at this place of this run, if both are there
 pub record StandsAt (table : Table) (run at block : ℕ) : Type 0 where
   pub there : run < length table.runs
   pub place : at < length (run_at table run).blocks
   pub block_is : slice_index (run_at table run).blocks at ≡ block
 
--- it stands in some run
+-- it is in some run
 abbrev pub Stands : Table → ℕ → Type 0
 Stands table block = (run : ℕ) × ((at : ℕ) × StandsAt table run at block)
 
--- A block is taken exactly where it stands in a run, and it stands at one place of one run.
+-- A block is taken exactly when it is in a run, and it is at one place of one run.
 abbrev pub PlacesLaw : Type 0
 PlacesLaw =
     ((table : Table) (block : ℕ) → IsTaken table block ↔ Stands table block)

@@ -3,7 +3,7 @@ use Rattle.std.specs.Prelude.{◌≡◌, ℕ, ◌-◌, ◌<◌, ◌≤◌, ◌==
 use Rattle.std.specs.Prelude.{slice_index_or, slice_set}
 use Rattle.std.specs.List.{All, remove}
 
--- the blocks that a file's octets stand in, in their order, and how many it may have
+-- the blocks that a file's octets are in, in their order, and how many it may have
 pub record Run : Type 0 where
   pub blocks : List ℕ
   pub room : ℕ
@@ -22,7 +22,7 @@ new_run room = record { blocks = []; room = room }
 abbrev pub new_table : ℕ → ℕ → Table
 new_table limit most = record { runs = []; limit = limit; most = most }
 
--- the run at this place; one that may have no block where there is none
+-- the run at this place; one that may have no block if there is none
 abbrev pub run_at : Table → ℕ → Run
 run_at table run = slice_index_or table.runs run (new_run 0)
 
@@ -34,11 +34,11 @@ rooms_of runs = sum_by (λ r. r.room) runs
 abbrev pub left_in : Table → ℕ
 left_in table = table.limit - rooms_of table.runs
 
--- how often a block stands in a run
+-- how often a block occurs in a run
 abbrev pub times_in : ℕ → Run → ℕ
 times_in block run = count_by (λ b. b == block) run.blocks
 
--- how often it stands in these runs together
+-- how often it occurs in these runs together
 abbrev pub times_of : ℕ → List Run → ℕ
 times_of block runs = sum_by (times_in block) runs
 
@@ -66,7 +66,7 @@ pub record IsRun (limit : ℕ) (run : Run) : Type 0 where
   pub fits : length run.blocks ≤ run.room
   pub below : All (λ b. b < limit) run.blocks
 
--- each run is one; they may have no more blocks together than there are; and no block stands twice, be it in one run or
+-- each run is one; they may have no more blocks together than there are; and no block occurs twice, be it in one run or
 -- in two
 pub record AreRuns (runs : List Run) (limit : ℕ) : Type 0 where
   pub each : All (IsRun limit) runs
@@ -75,19 +75,19 @@ pub record AreRuns (runs : List Run) (limit : ℕ) : Type 0 where
   pub some : 1 ≤ limit
   pub most : limit ≤ 65536
 
--- what holds of each table
+-- what is true of each table
 abbrev pub IsTable : Table → Type 0
 IsTable table = AreRuns table.runs table.limit
 
--- this run with one more block behind its others
+-- this run with one more block after its others
 abbrev pub with_block : Run → ℕ → Run
 with_block run block = record { blocks = run.blocks ++ block ∷ []; room = run.room }
 
--- a run without blocks, which may have so many, came behind the others
+-- a run without blocks, which may have this number of them, came after the others
 abbrev pub after_beginning : Table → ℕ → Table
 after_beginning table room = record table { runs = table.runs ++ new_run room ∷ [] }
 
--- this run has this block behind its others
+-- this run has this block after its others
 abbrev pub after_taking : Table → ℕ → ℕ → Table
 after_taking table run block =
     record table { runs = slice_set table.runs run (with_block (run_at table run) block) }

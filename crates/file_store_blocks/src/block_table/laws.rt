@@ -2,7 +2,7 @@
 
 ghost use Rattle.file_store_blocks.specs.BlockTable.Laws.{PlacesLaw, RulesLaw};
 
-/// A block is taken exactly where it stands in a run, and it stands at one place of one run.
+/// A block is taken exactly when it is in a run, and it is at one place of one run.
 pub fn places_law()
     ensures { PlacesLaw }
 {}

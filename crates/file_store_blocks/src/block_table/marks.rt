@@ -1,10 +1,10 @@
-//! Where the blocks of a run stand in the table's list of numbers, and which blocks are taken.
+//! Where the blocks of a run are in the table's list of numbers, and which blocks are taken.
 
 ghost use Rattle.std.specs.Prelude.{◌≡◌, ◌<◌, ◌≤◌, ◌++◌, IfNone, IfSome, length, map, take, drop};
 ghost use Rattle.std.specs.List.{All};
 ghost use Rattle.file_store_blocks.specs.BlockTable.Kept.{AllMarked, AreFreed, IsFirstFree, earlier};
 
-/// Where the blocks of a run stand in the table's list of numbers.
+/// Where the blocks of a run are in the table's list of numbers.
 #[derive(Clone, Copy)]
 pub struct RunMark {
     /// The place of its first block's number.
@@ -15,7 +15,7 @@ pub struct RunMark {
     pub room: u32,
 }
 
-/// The places of the runs from this one on begin so many places earlier.
+/// The places of the runs from this one on begin this number of places earlier.
 pub fn move_up(marks: &mut [RunMark], from: usize, places: u32)
     requires from { from ≤ length marks.old }
     requires places { All (λ m. places ≤ m.first) (drop from marks.old) }

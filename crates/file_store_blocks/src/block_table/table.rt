@@ -14,14 +14,14 @@ use std::marker::Model;
 /// The runs of blocks of a store's files. Contracts see it as a `Table`.
 #[derive(Drop)]
 pub struct BlockTable {
-    /// The numbers of the blocks: those of a run stand one behind another, from its first place on.
+    /// The numbers of the blocks: those of a run are one after another, from its first place on.
     numbers: Vec<u16>,
     /// Of each block, whether a run has it.
     taken: Vec<bool>,
     /// The hint, from which a free block is looked for: each block below this one is taken.
     lowest: u32,
     runs: Vec<RunMark>,
-    /// How many blocks the runs may have together: so many places of the list of numbers are theirs.
+    /// How many blocks the runs may have together: this number of places of the list of numbers are theirs.
     rooms: u32,
     limit: u32,
 }
@@ -51,8 +51,8 @@ impl Model for BlockTable {
 }
 
 impl BlockTable {
-    /// A table without runs, of so many blocks, which may have so many runs. Takes memory, all that it ever does:
-    /// 3 octets for each block, and 12 for each run.
+    /// A table without runs, of `limit` blocks, which may have `runs` runs. Takes memory, all that it ever does: 3
+    /// octets for each block, and 12 for each run.
     pub fn new(alloc: Global, limit: u32, runs: usize) -> Result<BlockTable, OutOfMemory>
         requires some { 1 ≤ limit }
         requires most { limit ≤ 65536 }
@@ -77,7 +77,7 @@ impl BlockTable {
         self.limit - self.rooms
     }
 
-    /// Begins a run, which has no block yet, and may have so many. Takes no memory.
+    /// Begins a run, which has no block yet, and may have `room` of them. Takes no memory.
     pub fn begin(&mut self, room: u32)
         requires room { room ≤ left_in self.old }
         requires few { length self.old.runs < self.old.most }
@@ -125,7 +125,7 @@ impl BlockTable {
         self.lowest
     }
 
-    /// A run, which has room for it, has this block behind its others; no run had it. Takes no memory. The work is the
+    /// A run, which has room for it, has this block after its others; no run had it. Takes no memory. The work is the
     /// same for each table.
     pub fn take(&mut self, run: usize, block: u32)
         requires room { HasRoom self.old run }

@@ -10,11 +10,11 @@ use Rattle.ftl0_server.proofs.connection.TakingLemmas.{by_tests}
 module _ {D : Type 0} (g : Ghosts D) (on : (first second third : D) → g.lasts first second → g.lasts second third → g.lasts first third)
     (w : Window) (end : LinkEnd) (moment : ℕ) (session : SessionState) (new : ConnectionState) (before now : WorkingOn D) (item : Item) (first : ℕ)
     (ready : IsReady g before.store before.disk) (seen : IsSeen g moment session before (item ∷ [])) (lasts : g.lasts before.disk before.disk) where
-  -- the packet's row, where a read fails or none does
+  -- the packet's row, whether a read fails or none does
   abbrev row_here : Bool → Row
   row_here = packet_row g (packet_of (caller_of session) moment item) (at_work session before)
 
-  -- what one packet makes with this row, where a write fails or none does
+  -- what one packet makes with this row, whether a write fails or none does
   abbrev one : Bool → Row → Progress
   one failed row = by_tests (session_on g session before) end first row failed (fits end (texts row.replies)) (resting (after_push end (texts row.replies)) row.state row.lists (suc first))
 
@@ -25,7 +25,7 @@ module _ {D : Type 0} (g : Ghosts D) (on : (first second third : D) → g.lasts 
   one-is : (failures : List Failure) (reads writes : Bool) → read_fails failures first ≡ reads → write_fails failures first ≡ writes → taking_one failures ≡ one writes (row_here reads)
   one-is failures reads writes is_read is_written = grind (arith, common_steps)
 
-  -- where a write fails
+  -- if a write fails
   one-fails : (reads : Bool) → taking_one (failed_write first ++ failed_reads (at_part reads first)) ≡ one true (row_here reads)
   one-fails reads = one-is (failed_write first ++ failed_reads (at_part reads first)) reads true (reads-at (failed_write first) reads first (one-writes first)) (writes-at first (at_part reads first))
 
@@ -43,7 +43,7 @@ module _ {D : Type 0} (g : Ghosts D) (on : (first second third : D) → g.lasts 
   by-answers row (Ok done) replies given = (given.1, given.2, given.3)
   by-answers row (Err fault) replies given = tt
 
-  -- over what memory tells no read decides the row
+  -- over what memory shows, no read decides the row
   looks-at : ¬ IsKnown g before.disk → (looks : LookAtNone (caller_of session) moment (session_on g session before) (item ∷ []))
       → LooksAtNone (packet_of (caller_of session) moment item) (working session before.store before.lists) looks.0
   looks-at unknown looks reads =
@@ -63,7 +63,7 @@ module _ {D : Type 0} (g : Ghosts D) (on : (first second third : D) → g.lasts 
             })
       ]
 
-  -- how many reads its row tells of
+  -- how many reads its row reports
   missed-is : (result : Result ⊤ DiskFault) (replies : List ℕ) (takes : Takes result replies) → one_if takes.fails ≡ failed_reads_told (row_here takes.fails).replies
   missed-is result replies takes =
       sym (told-is (caller_of session) moment (store_on g before.store before.disk) item (working session before.store before.lists) takes.fails (is-by result replies takes).told)

@@ -1,4 +1,4 @@
--- How a connection queues what is due, behind the packets of a frame.
+-- How a connection queues what is due, after the packets of a frame.
 use Rattle.std.proofs.Common.{◌≡◌, ◌⊎◌, inl, inr, ℕ, suc, ◌+◌, ◌<◌, ◌≤◌, Bool, true, false, List, [], ◌++◌, refl, ap, sym, ◌∙◌, subst, arith, append-nil}
 use Rattle.ftl0_server.specs.Connection.ConnectionState.{Hears}
 use Rattle.ftl0_server.proofs.Names.{common_steps, All, None, Some, Result, Ok, ⊤, add-zero, add_assoc, All-append, All-nil, All-weaker, Ghosts, free_octets, Kept, StandsFor, Window, after_all, IsKnown, IsReady, StoreState, store_on, Store, DoesAmongReads, one_if, among-at, among-same, among-store, among-then, does-among, Does-none, known_on, puts-among-then, Failure, failed_reads, read_fails, DiskFault, WorkingOn, state_in, DuePacket, State, due_at, next_due, tells_failed_read, AtDisk, Fate, Stays, ConnectionState, HearsBy, AreFree, HearsParts, IsNothingDue, KeepsFit, Queued, QueuesBy, QueuesDue, QueuesPacket, NoneDue, progressed, Progress, after_due, enough_free, fails, queued, queuing, stations-then}
@@ -28,7 +28,7 @@ module _ {D : Type 0} (g : Ghosts D) (lasts : (disk : D) → g.lasts disk disk) 
 
   module _ (store : StoreState) (disk disk_n : D) (old new : ConnectionState) (ready : IsReady g store disk) (link : new.link ≡ old.link)
       (state : state_in store new.session ≡ state_in store old.session) (untouched : disk_n ≡ disk) where
-    -- it stands as it stood
+    -- it is as it was
     still : (w : Window) (progress : Progress) → StandsFor w old.link progress.end → state_in store old.session ≡ progress.state
         → progress ≡ queuing (free_octets progress.end) (store_on g store disk) (failed_reads []) progress → Queued g w store disk disk_n new progress
     still w progress stands stood is = record {
@@ -64,7 +64,7 @@ module _ {D : Type 0} (g : Ghosts D) (lasts : (disk : D) → g.lasts disk disk) 
     same-store = among-store g (one_if (tells_failed_read one.due.packet)) store store disk disk_m [] known one.reads
 
     module _ (w : Window) (progress : Progress) (stands : StandsFor w old.link progress.end) (state : state_in store old.session ≡ progress.state) where
-      -- behind it
+      -- after it
       abbrev next : Progress
       next = after_due one.due progress
 
@@ -122,7 +122,7 @@ module _ {D : Type 0} (g : Ghosts D) (lasts : (disk : D) → g.lasts disk disk) 
   -- ---- a frame
 
   module _ (w : Window) (left : List ℕ) (event : List Failure → Progress) (before : AtDisk StoreState D) where
-    -- with what is due behind it
+    -- with what is due after it
     abbrev whole : List Failure → Progress
     whole failures = queued (store_on g before.it before.disk) failures (event failures)
 

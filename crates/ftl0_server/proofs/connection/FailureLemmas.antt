@@ -18,7 +18,7 @@ among-none part (one ∷ parts) others = ap (λ b. b || is_among part parts) (no
 among-later : (low part : ℕ) (parts : List ℕ) → All (λ one. low ≤ one) parts → part < low → is_among part parts ≡ false
 among-later low part parts later before = grind (arith, common_steps, among-none, recursion_from_All)
 
--- nor a part behind all of these
+-- nor a part after all of these
 among-before : (high part : ℕ) (parts : List ℕ) → All (λ one. one < high) parts → high ≤ part → is_among part parts ≡ false
 among-before high part parts before later = grind (arith, common_steps, among-none, recursion_from_All)
 
@@ -45,7 +45,7 @@ none-writes part = refl
 pub one-writes : (part : ℕ) → AreWrites (failed_write part)
 one-writes one part = write-unread one part
 
--- the writes that are listed, where reads are too
+-- the writes that are listed, if reads are too
 pub writes-among : (writes : List Failure) (parts : List ℕ) (part : ℕ) → write_fails (writes ++ failed_reads parts) part ≡ write_fails writes part
 writes-among writes parts part = grind (arith, common_steps, writes-behind, writes-unlisted, or-false)
 
@@ -62,7 +62,7 @@ other-part one part ne = write-listed one part ∙ not-equal one part ne
 
 -- ---- one part
 
--- this part, where it is to be listed
+-- this part, if it is to be listed
 abbrev pub at_part : Bool → ℕ → List ℕ
 at_part fails part = if fails then part ∷ [] else []
 

@@ -22,7 +22,7 @@ module _ {D : Type 0} (g : Ghosts D) where
       → LeavesFit g (at on.store on.disk) on link link_n session session (fate, Ok tt)
   fit-heard on link link_n session fate lasts may up down stations = grind (arith, common_steps, puts-among, puts_none)
 
-  -- a session began anew, over a store that has only given up the upload of the one before
+  -- a session began again, over a store that has only given up the upload of the one before
   pub fit-anew : (on : WorkingOn D) (store_n : StoreState) (link link_n : Kept) (session session_n : SessionState) → g.lasts on.disk on.disk → SessionMayTake g on.store on.disk on.lists session
       → GivesUp on.store store_n → session_n ≡ new_session (caller_of session) → NoOtherOut store_n (caller_of session) None
       → KeepsOtherCallers on.store store_n (caller_of session) → link_n.state ≡ Up → SameStations link link_n
@@ -77,7 +77,7 @@ module _ {D : Type 0} (g : Ghosts D) where
           stations = stations-then link link_m link_n first.stations second.stations;
         }
 
-    -- packets, and then what is due behind them
+    -- packets, and then what is due after them
     pub fit-queued : (before : AtDisk StoreState D) (between now : WorkingOn D) (link : Kept) (session : SessionState) (mid new : ConnectionState) → now.lists ≡ between.lists
         → LeavesFit g before between link mid.link session mid.session (Stays, Ok tt) → KeepsFit g between.store now.store between.disk now.disk mid new
         → LeavesFit g before now link new.link session new.session (Stays, Ok tt)

@@ -36,17 +36,17 @@ module _ {D : Type 0} (g : Ghosts D) (lasts : (disk : D) → g.lasts disk disk) 
   parts-over stands = grind (arith, common_steps, does-nothing, on_parked)
 
 module _ {D : Type 0} (g : Ghosts D) (w : Window) (moment : ℕ) (frame : FrameValue) (before now : WorkingOn D) (new : ConnectionState) (result : Fate × Result ⊤ DiskFault) where
-  -- what was heard of these octets, by what the link told
+  -- what was heard of these octets, by what the link reported
   abbrev Told : Heard → Connected → LinkEnd → List ℕ → Type 0
   Told told c end octets =
       HearsParts g w (rest_as told c octets) (parts_as told moment (store_on g before.store before.disk) before.lists c end octets) (at before.store before.disk) now new result
 
-  -- what the link told decides
+  -- what the link reported decides
   pub parts-told : (old : ConnectionState) (told : Heard) → Tells old.link (λ w end. heard_of w end frame) told → (c : Connected) → IsConnection w before.store old c
       → Told told c (after_frame w c.end frame) frame.kind.information → Told (heard_of w c.end frame) c (after_frame w c.end frame) frame.kind.information
   parts-told old told tells c is h = subst (λ (t : Heard). Told t c (after_frame w c.end frame) frame.kind.information) (tells w c.end is.link) h
 
-  -- it told nothing that changes more than the end
+  -- it reported nothing that changes more than the end
   pub parts-quiet : (told : Heard) (c : Connected) (end : LinkEnd) (octets : List ℕ) → (told ≡ Nothing) ⊎ (told ≡ Opened) → Told Nothing c end octets → Told told c end octets
   parts-quiet told c end octets (inl is) h = subst (λ (t : Heard). Told t c end octets) (sym is) h
   parts-quiet told c end octets (inr is) h = subst (λ (t : Heard). Told t c end octets) (sym is) h
@@ -59,7 +59,7 @@ module _ {D : Type 0} (g : Ghosts D) (w : Window) (moment : ℕ) (frame : FrameV
       (at before.store before.disk) now new result in
       subst (P c.end.peer) same (subst (λ (caller : CallSign). P caller octets) peer h)
 
--- where no octet of a file is looked at nothing is due behind the parts, if the session goes on
+-- if no octet of a file is looked at, nothing is due after the parts, if the session goes on
 pub looks-due : (told : Heard) (moment : ℕ) (store : Store) (lists : List CallerList) (c : Connected) (end : LinkEnd) (octets : List ℕ) (failures : List Failure) → ((n : ℕ) → write_fails failures n ≡ false)
     → LooksAtNoneAs told moment store lists c end octets → (parts_as told moment store lists c end octets failures).over ≡ false → NoneDue (parts_as told moment store lists c end octets failures).state
 looks-due Nothing moment store lists c end octets failures none looks goes = looks
@@ -75,7 +75,7 @@ looks-due (Closed why) moment store lists c end octets failures none looks goes 
 pub same-peer : (w : Window) (link link_n : Kept) (end next : LinkEnd) → StandsFor w link end → StandsFor w link_n next → link_n.peer ≡ link.peer → next.peer ≡ end.peer
 same-peer w link link_n end next stands stands_n same = sym (ap (λ (k : Kept). k.peer) stands_n.kept) ∙ same ∙ ap (λ (k : Kept). k.peer) stands.kept
 
--- ---- a session that begins anew
+-- ---- a session that begins again
 
 -- for the caller by the name that the definitions have
 pub anew-at : (w : Window) (store : StoreState) (connection : ConnectionState) (end : LinkEnd) (moment : ℕ) (lists : List CallerList) (caller peer : CallSign) → caller ≡ peer

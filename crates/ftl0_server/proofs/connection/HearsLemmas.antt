@@ -40,9 +40,9 @@ seen-first g moment session before items others (inl known) = inl known
 seen-first g moment session before items others (inr (unknown, looks)) = inr (unknown, looks-first (caller_of session) moment (session_on g session before) items others looks)
 
 module _ {D : Type 0} (g : Ghosts D) (on : (first second third : D) → g.lasts first second → g.lasts second third → g.lasts first third) (w : Window) where
-  -- ---- what stands since a frame came
+  -- ---- what images stand for since a frame came
 
-  -- whichever write fails, what is begun is a front of what is done where none does
+  -- whichever write fails, what is begun is a prefix of what is done when none does
   abbrev pub BeginsWhole : (List Failure → Happened) → Type 0
   BeginsWhole event = (part : ℕ) → IsFront ((event (failed_write part)).done ++ (event (failed_write part)).cut) (event []).done
 
@@ -62,7 +62,7 @@ module _ {D : Type 0} (g : Ghosts D) (on : (first second third : D) → g.lasts 
 
   module _ (moment : ℕ) (old mid new : ConnectionState) (before between now : WorkingOn D) (end : LinkEnd) (items others : List Item) (first : ℕ) (callers : caller_of mid.session ≡ caller_of old.session)
       (one : TakesPackets g w (taking_some g moment old.session before end items first) (IsAmong first (length items)) (at before.store before.disk) between (none_left mid.link mid.session) (Stays, Ok tt)) where
-    -- the parts behind them begin here
+    -- the parts after them begin here
     abbrev next : ℕ
     next = first + length items
 
@@ -115,7 +115,7 @@ module _ {D : Type 0} (g : Ghosts D) (on : (first second third : D) → g.lasts 
         (taking-alike (caller_of old.session) moment (session_on g mid.session between) made.end others all (writes ++ failed_reads parts) next
         (alike-second writes one.parts parts next (next + length others) are ahead)))
 
-    -- so it is where a write of the others fails
+    -- so it is if a write of the others fails
     same-fault : (part : ℕ) (parts : List ℕ) → All (λ part. next ≤ part) parts → (part_of (failed_write part ++ failed_reads parts)).halt ≡ fails
         → whole (failed_write part ++ failed_reads (one.parts ++ parts)) ≡ behind made.missed made.done (part_of (failed_write part ++ failed_reads parts))
     same-fault part parts later halts =
@@ -206,7 +206,7 @@ module _ {D : Type 0} (g : Ghosts D) (on : (first second third : D) → g.lasts 
           rw (ended ([] ++ failed_reads parts) (going-over (of_items ([] ++ failed_reads parts)) h.1.1.0)) (store fine)
       store-ended parts Ends (Err why) stops h store fine = absurd (cc fine)
 
-      -- whatever comes behind packets that stopped the connection isn't taken
+      -- whatever comes after packets that stopped the connection isn't taken
       pub parts-stopped : (told : Fate × Result ⊤ DiskFault) → IsStop told
           → TakesPackets g w (taking_some g moment session before end items 0) (IsAmong 0 (length items)) (at before.store before.disk) now (none_left new.link new.session) told
           → HearsParts g w left of_all (at before.store before.disk) now new told

@@ -10,7 +10,7 @@ going-or told = grind (arith, common_steps)
 
 module _ {D : Type 0} (g : Ghosts D) (on : (first second third : D) → g.lasts first second → g.lasts second third → g.lasts first third) (moment : ℕ) (old new : ConnectionState) (octets : List ℕ)
     (before now : WorkingOn D) (told : Fate × Result ⊤ DiskFault) (peer : old.link.peer ≡ caller_of old.session) (seen : IsSeen g moment old.session before (packets_of (old.octets ++ octets))) (w : Window) (c : Connected) (is : IsConnection w before.store old c) where
-  -- what was heard, where these packets of these octets came, and others waited before
+  -- what was heard, if these packets of these octets came, and others waited before
   abbrev Heard : CallSign → State → List ℕ → List Item → Type 0
   Heard caller state waiting items =
       HearsParts g w (rest_of (waiting ++ octets)) (λ failures. taking caller moment (session_over (store_on g before.store before.disk) before.lists state) c.end items failures 0)

@@ -4,14 +4,14 @@ use Rattle.std.specs.Prelude.{if◌then◌else◌}
 use Rattle.packet_link.proofs.Queuing.{filling-alike, filling-ends, filling-few, filling-keeps, filling-next, filling-none, packet-some, push-fewer}
 use Rattle.ftl0_server.proofs.Names.{common_steps, Option, None, Some, LinkEnd, free_octets, packet_text, after_all, Store, Failure, read_fails, DuePacket, due_at, next_due, none-whatever, IsQueued, QueuedLaw, Progress, after_due, enough_free, queued, queuing}
 
--- fewer octets are free behind a packet
+-- fewer octets are free after a packet
 due-fewer : (progress : Progress) (due : DuePacket) → enough_free ≤ free_octets progress.end → free_octets (after_due due progress).end < free_octets progress.end
 due-fewer progress due enough = push-fewer progress.end (packet_text due.packet) (packet-some due.packet) (omega arith)
 
 abbrev end_of : Progress → LinkEnd
 end_of progress = progress.end
 
--- all but the end, the state, the part and what failed reads are told
+-- all except the end, the state, the part and what failed reads are reported
 pub record KeepsRest (before now : Progress) : Type 0 where
   pub over : now.over ≡ before.over
   pub lists : now.lists ≡ before.lists
@@ -31,11 +31,11 @@ module _ (store : Store) (failures : List Failure) where
   abbrev due_of : Progress → Option DuePacket
   due_of progress = due_at store progress.state failures progress.part
 
-  -- none, where nothing is due
+  -- none, if nothing is due
   pub queuing-none : (count : ℕ) (progress : Progress) → due_at store progress.state failures progress.part ≡ None → queuing count store failures progress ≡ progress
   queuing-none = filling-none end_of due_of after_due
 
-  -- nor where fewer octets are free
+  -- nor if fewer octets are free
   pub queuing-fewer : (count : ℕ) (progress : Progress) → free_octets progress.end < enough_free → queuing count store failures progress ≡ progress
   queuing-fewer = filling-few end_of due_of after_due
 
@@ -51,7 +51,7 @@ module _ (store : Store) (failures : List Failure) where
       filling-alike end_of due_of after_due (λ at. due_at store at.state others at.part) (λ (at : Progress). progress.part ≤ at.part)
       (λ at later. ap (λ (fails : Bool). next_due store at.state fails) (alike at.part later)) (λ at due later. omega (arith, later)) count progress (omega arith)
 
-  -- what stands of each that is reached
+  -- what is true of each that is reached
   pub queuing-holds : (Holds : Progress → Type 0)
       → ((progress : Progress) (due : DuePacket) → due_at store progress.state failures progress.part ≡ Some due → Holds progress → Holds (after_due due progress)) → (count : ℕ) (progress : Progress)
       → Holds progress → Holds (queuing count store failures progress)
@@ -68,7 +68,7 @@ module _ (store : Store) (failures : List Failure) where
       (λ progress none. inl (λ others part. none-whatever store progress.state (read_fails failures progress.part) (read_fails others part) none)) (λ progress few. inr few)
 
 module _ (store : Store) where
-  -- where the session goes on
+  -- if the session goes on
   pub queued-on : (failures : List Failure) (progress : Progress) → progress.over ≡ false
       → queued store failures progress ≡ queuing (free_octets progress.end) (after_all store progress.done) failures progress
   queued-on failures progress going = grind (arith, common_steps)

@@ -13,7 +13,7 @@ is_going fails = false
 abbrev pub going : Progress → Bool
 going progress = not progress.over && is_going progress.halt
 
--- these commands were done before, and so many reads failed
+-- these commands were done before, and this many reads failed
 abbrev pub behind : ℕ → List Command → Progress → Progress
 behind missed done progress = record progress { missed = missed + progress.missed; done = done ++ progress.done }
 
@@ -21,14 +21,14 @@ behind missed done progress = record progress { missed = missed + progress.misse
 behind-none : (progress : Progress) → progress ≡ behind 0 [] progress
 behind-none progress = ap (λ (missed : ℕ). record progress { missed = missed }) (sym (zero-add progress.missed))
 
--- what a packet's row makes, by whether a write fails and whether its replies fit, where this comes behind it
+-- what a packet's row makes, by whether a write fails and whether its replies fit, if this comes after it
 abbrev pub by_tests : Session → LinkEnd → ℕ → Row → Bool → Bool → Progress → Progress
 by_tests session end part row failed enough later =
     if failed then failing_at end session.state session.lists row part
     else if enough then after_row row later
     else giving_up end row part
 
--- the session behind a row
+-- the session after a row
 abbrev pub behind_row : Session → Row → Session
 behind_row session row = session_over (after_all session.store row.commands) row.lists row.state
 
@@ -53,7 +53,7 @@ module _ (caller : CallSign) (moment : ℕ) where
 -- ---- packets at which the taking stops
 
 module _ (caller : CallSign) (moment : ℕ) where
-  -- whatever comes behind packets at which the taking stops isn't taken
+  -- whatever comes after packets at which the taking stops isn't taken
   pub taking-ended : (session : Session) (end : LinkEnd) (items others : List Item) (failures : List Failure) (part : ℕ)
       → going (taking caller moment session end items failures part) ≡ false
       → taking caller moment session end (items ++ others) failures part ≡ taking caller moment session end items failures part
@@ -63,7 +63,7 @@ module _ (caller : CallSign) (moment : ℕ) where
       let each = taking-ended (behind_row session row) (after_push end (texts row.replies)) items others failures (suc part) in
       grind (arith, common_steps)
 
--- where the disk failed the session is over
+-- if the disk failed, the session is over
 abbrev pub IsOverAtFault : Progress → Type 0
 IsOverAtFault progress = progress.halt ≡ fails → progress.over ≡ true
 
@@ -94,7 +94,7 @@ module _ (caller : CallSign) (moment : ℕ) where
 
 -- ---- packets after which it goes on
 
--- where it goes on behind others, and what packets make there
+-- where it goes on after others, and what packets make there
 abbrev pub on_from : Store → Progress → Session
 on_from store from = session_over (after_all store from.done) from.lists from.state
 
@@ -103,7 +103,7 @@ goes_from caller moment failures store from others =
     behind from.missed from.done (taking caller moment (on_from store from) from.end others failures from.part)
 
 module _ (caller : CallSign) (moment : ℕ) where
-  -- what comes behind packets after which it goes on is taken from there
+  -- what comes after packets after which it goes on is taken from there
   pub taking-on : (session : Session) (end : LinkEnd) (items others : List Item) (failures : List Failure) (part : ℕ)
       → going (taking caller moment session end items failures part) ≡ true
       → taking caller moment session end (items ++ others) failures part
@@ -131,7 +131,7 @@ module _ (caller : CallSign) (moment : ℕ) where
   looks-first session [] others looks = tt
   looks-first session (item ∷ items) others looks = (looks.0, looks.1, looks.2, looks-first (behind_row session looks.0) items others looks.3)
 
-  -- those behind the first, after which it goes on
+  -- those after the first, after which it goes on
   pub looks-on : (session : Session) (end : LinkEnd) (items others : List Item) (failures : List Failure) (part : ℕ) → LookAtNone caller moment session (items ++ others)
       → going (taking caller moment session end items failures part) ≡ true
       → LookAtNone caller moment (on_from session.store (taking caller moment session end items failures part)) others
@@ -155,7 +155,7 @@ module _ (caller : CallSign) (moment : ℕ) where
       (ap (λ (later : Progress). taking_row end session.state session.lists part false later row)
       (looks-same (behind_row session row) (after_push end (texts row.replies)) items failures (suc part) looks.3 none))
 
--- ---- what is done is a front of what is done where no write fails
+-- ---- what is done is a prefix of what is done when no write fails
 
 -- these commands are the first of those
 abbrev pub IsFront : List Command → List Command → Type 0
@@ -164,11 +164,11 @@ IsFront front all = (more : List Command) × (all ≡ front ++ more)
 pub front-same : (commands : List Command) → IsFront commands commands
 front-same commands = ([], sym (append-nil commands))
 
--- done, and where the disk failed those in one of which it did
+-- done, and if the disk failed, those in one of which it did
 abbrev pub begun : Progress → List Command
 begun progress = progress.done ++ progress.cut
 
--- what is begun is a front of what another one does
+-- what is begun is a prefix of what another one does
 abbrev pub Begins : Progress → Progress → Type 0
 Begins some all = IsFront (begun some) all.done
 

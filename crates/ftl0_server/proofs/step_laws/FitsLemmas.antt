@@ -1,5 +1,5 @@
--- Each event of a server has one step: a server comes to send nothing by one list of frames, and the ends of its links
--- stay such as frames and ticks bring about.
+-- Each event of a server has one step: a server has nothing left to send after one list of frames, and the ends of its
+-- links stay such as frames and ticks bring about.
 use Rattle.std.proofs.Common.{◌≡◌, ℕ, zero, suc, List, [], ◌∷◌, set, map, Bool, Option, None, Some, rules, refl, sym, ◌∙◌, ap, subst, arith}
 use Rattle.ftl0_server.proofs.step_laws.Names.{common_steps, slice_get, option_map, none-some, same_Some, CallSign, FrameValue, after_push, IsEnd, LinkEnd, Sending, next_sending, Window, Heard, after_frame-IsEnd, after_push-IsEnd, after_tick-IsEnd, answering_end-IsEnd, Item, packet_text, CallerList, after_all, Store, NodeEvent, Failure, texts, Row, State, row_at, session_over, Connected, parts_as, ticking, with_end, QueuedLaw, Progress, queued, queuing, taking, SlotFits, SlotsFit, IsSilent, Refused, Server, ServerHappened, ServerSends, hearing_at, hearing_by, hearing_stranger, sends_by, settled, Empties, happening, stepped, Slot, all_freed, connected, free, leaving, left_by, places_next, slot_next, slot_sends, slot_ticking, by_stray, emptied, empties-silent, first_none, queuing-holds, server_left, silent-settled, AreQueued, OneStepLaw, SomeStepLaw}
 use Rattle.ftl0_server.proofs.step_laws.QueuedLemmas.{all-stay, freed-queued, heard-queued, left-queued, places-sent, queued-set, ticked-queued}

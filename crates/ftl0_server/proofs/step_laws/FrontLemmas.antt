@@ -1,4 +1,4 @@
--- What an event begins in which a write fails is a front of what it does where none does.
+-- What an event begins in which a write fails is a prefix of what it does when none does.
 use Rattle.std.proofs.Common.{ℕ, List, [], ◌++◌, Option, None, Some, refl}
 use Rattle.ftl0_server.proofs.step_laws.Names.{slice_get, FrameValue, Heard, Bytes, LinkEnd, after_frame, heard_of, packets_of, Store, CallerList, session_over, Failure, NoReadFails, Connected, caller_of, parts_as, parts_of_frame, Progress, queued, Server, ServerHappened, hearing_at, hearing_by, happening, Slot, connected, place_of, Begins, IsFront, queued-keeps, taking-begins, NodeEvent, hears, ticks, FrontOfEventLaw, begun_in}
 
@@ -10,7 +10,7 @@ queued-begins store some all before other begins =
     let others = queued-keeps store all other in
     rw (kept.done, kept.cut, others.done) begins
 
--- what an event begins is a front of what another one does
+-- what an event begins is a prefix of what another one does
 abbrev EventBegins : ServerHappened → ServerHappened → Type 0
 EventBegins some all = IsFront (begun_in some) all.done
 

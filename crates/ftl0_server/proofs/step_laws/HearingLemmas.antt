@@ -1,4 +1,4 @@
--- What a frame makes of a connection goes by entries.
+-- What a frame makes of a connection is what entries make.
 use Rattle.std.proofs.Common.{◌≡◌, ℕ, zero, suc, ◌≤◌, min, List, [], ◌∷◌, ◌++◌, length, take, Bool, true, false, Option, None, Some, refl, sym, ap, subst, ◌∙◌, append_assoc, append-nil, arith}
 use Rattle.std.specs.Prelude.{if◌then◌else◌, ◌==◌, ◌&&◌, ◌||◌}
 use Rattle.std.proofs.lemmas.List.Concat.{flat_map-append}
@@ -27,7 +27,7 @@ does-then end mid last (doing ∷ some) more first second = (first.0, does-then 
 pushed-whole : (end : LinkEnd) (text : List ℕ) → length text ≤ free_octets end → (after_push end text).pushed ≡ end.pushed ++ text
 pushed-whole end text few = ap (λ (octets : List ℕ). end.pushed ++ octets) (take_all (free_octets end) text few)
 
--- and others behind it
+-- and others after it
 pushed-then : (end : LinkEnd) (text more : List ℕ) (last : List ℕ) → length text ≤ free_octets end → last ≡ (after_push end text).pushed ++ more → last ≡ end.pushed ++ (text ++ more)
 pushed-then end text more last few is = is ∙ ap (λ (octets : List ℕ). octets ++ more) (pushed-whole end text few) ∙ append_assoc end.pushed text more
 
@@ -153,7 +153,7 @@ module _ (caller : CallSign) (moment : ℕ) where
 
 -- ---- packets that are due
 
--- one packet: DATA_END where nothing is left, else DATA of the next octets
+-- one packet: DATA_END if nothing is left, else DATA of the next octets
 abbrev packet_by : Bool → List ℕ → download.DownloadState → download.DownloadState → due_part.DuePacket
 packet_by none octets some more =
     if none then record { packet = data_end; state = some } else record { packet = data_part (take due_part.most_data octets); state = more }
@@ -238,9 +238,9 @@ module _ (caller : CallSign) (moment : ℕ) (store : Store) (lists : List Caller
       due-by progress (λ due. queuing more store [] (after_due due progress)) (λ due. entries_due more store (after_push progress.end (packet_text due.packet)) due.state) up
       (λ due. due-all more (after_due due progress) up) (nat_le enough_free (free_octets progress.end)) refl
 
--- ---- what the link tells
+-- ---- what the link reports
 
--- whether the link is up behind what it tells, of a frame that doesn't call
+-- whether the link is up after what it reports, of a frame that doesn't call
 abbrev pub IsUpBehind : Heard → LinkEnd → Type 0
 IsUpBehind Nothing after = after.state ≡ Up
 IsUpBehind Opened after = ⊥
@@ -299,7 +299,7 @@ up-behind w end frame up other = subst (λ (state : LinkState). IsUpAfter (row_o
 -- ---- a frame
 
 module _ (moment : ℕ) (store : Store) (lists : List CallerList) (c : Connected) (after : LinkEnd) (octets : List ℕ) where
-  -- what was taken, by what the link tells
+  -- what was taken, by what the link reports
   pub taken-told : (told : Heard) → IsUpBehind told after
       → Taken (caller_of c) moment (session_over store lists c.state) after (packets_told told c octets) (parts_as told moment store lists c after octets [])
       (entries_taken (caller_of c) moment (session_over store lists c.state) after (packets_told told c octets))
@@ -316,7 +316,7 @@ module _ (moment : ℕ) (store : Store) (lists : List CallerList) (c : Connected
       HeardBy w frame c (progressed (rest_of_frame w c frame) now) all
       × GoesBy (caller_of c) moment (session_over store lists c.state) all (session_over (after_all store now.done) now.lists now.state)
 
-  -- it is over, or what is due is queued behind it
+  -- it is over, or what is due is queued after it
   heard-by : (over : Bool) → progress.over ≡ over
       → Law (if over then progress else queuing (free_octets progress.end) (after_all store progress.done) [] progress)
       (entries ++ (if over then [] else entries_due (free_octets progress.end) (after_all store progress.done) progress.end progress.state))

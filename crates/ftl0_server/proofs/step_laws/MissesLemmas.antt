@@ -1,4 +1,4 @@
--- An event that tells of no read that failed is what it is where none fails.
+-- An event that reports no read that failed is what it is when none fails.
 use Rattle.std.proofs.Common.{◌≡◌, ⊎_elim, ℕ, zero, suc, ◌+◌, ◌≤◌, List, [], ◌∷◌, ◌++◌, Bool, true, false, ◌||◌, Option, None, Some, refl, sym, ap, ◌∙◌, arith}
 use Rattle.std.specs.Prelude.{if◌then◌else◌}
 use Rattle.std.proofs.Math.Bool.{or-false}
@@ -6,15 +6,15 @@ use Rattle.ftl0_session.specs.Uploads.Session as upload
 use Rattle.ftl0_session.proofs.WorkingLemmas.{writes-behind, writes-unlisted}
 use Rattle.ftl0_server.proofs.step_laws.Names.{Ok, nat_le, slice_get, none-some, same_Some, CallSign, FrameValue, after_push, Heard, Bytes, LinkEnd, free_octets, after_frame, heard_of, Window, texts, Item, data_end, packets_of, enough_free, fits, on_due, after_all, Store, entry_of, CallerList, Session, session_over, DuePacket, Row, by_upload, failed_reads_told, next_due, row_at, session_row, upload_part, Failure, NoReadFails, failed_reads, read_fails, write_fails, is_all, Connected, caller_of, hearing, parts_as, parts_of_frame, progressed, rest_of_frame, Progress, after_due, after_row, failing_at, giving_up, queued, queuing, taking, taking_row, Server, heard_at, hearing_at, hearing_by, happening, Slot, connected, place_of, NodeEvent, hears, ticks, MissesLaw, DueReadsLaw, ReadsLaw, failed_due, failed_row}
 
--- none of both, where there are none together
+-- none of both, if there are none together
 both-none : (some more : ℕ) → some + more ≡ 0 → (some ≡ 0) × (more ≡ 0)
 both-none some more none = (omega arith, omega arith)
 
--- the session behind a row
+-- the session after a row
 abbrev behind_row : Session → Row → Session
 behind_row session row = session_over (after_all session.store row.commands) row.lists row.state
 
--- the row of a file that can't be read tells of one read
+-- the row of a file that can't be read reports one failed read
 unread-told : (store : Store) (part : upload.State) (item : Item) (row : upload.Row) → upload.row_unread store part item ≡ Some row → failed_reads_told row.replies ≡ 1
 unread-told store (upload.receiving n rest) (Ok data_end) row is = by (is_all (entry_of store n) rest) is
   where
@@ -32,7 +32,7 @@ module _ (rows : ReadsLaw) (due : DueReadsLaw) (some others : List Failure) (ali
   -- ---- packets
 
   module _ (caller : CallSign) (moment : ℕ) where
-    -- the row of a packet that doesn't tell of a read is that where none fails
+    -- the row of a packet that doesn't report a failed read is the one when none fails
     row-by : (session : Session) (item : Item) (fails : Bool)
         → failed_reads_told (session_row caller moment session.store session.lists session.state item fails).replies ≡ 0
         → session_row caller moment session.store session.lists session.state item fails ≡ session_row caller moment session.store session.lists session.state item false
@@ -91,7 +91,7 @@ module _ (rows : ReadsLaw) (due : DueReadsLaw) (some others : List Failure) (ali
   -- ---- what is due
 
   module _ (store : Store) where
-    -- no fewer are told of behind what was queued
+    -- no fewer are reported after what was queued
     more-by : (progress : Progress) (enough : Bool) (next : Option DuePacket) (later : DuePacket → Progress) → ((one : DuePacket) → progress.missed ≤ (later one).missed)
         → progress.missed ≤ (if enough then on_due next progress later else progress).missed
     more-by progress true None later each = omega arith

@@ -3,7 +3,7 @@ use Rattle.std.proofs.Common.{◌≡◌, ℕ, zero, suc, ◌-◌, List, [], ◌�
 use Rattle.std.specs.Prelude.{if◌then◌else◌}
 use Rattle.ftl0_server.proofs.step_laws.Names.{common_steps, option_map, drop-append-le, none-some, same_Some, Farewell, IsEnd, LinkEnd, Reply, free_octets, held, most_held, Sending, after_new, last_sending, later_sending, most_information, next_piece, next_sending, sending_after, sends_again, sends_new, sends_reply, Window, after_new-HasPiece, concat-append_one, after_all, Store, Failure, State, due_at, Connected, ticking, with_end, IsQueued, QueuedLaw, Progress, queued, SlotFits, SlotsFit, PlacesSend, Slot, SlotSends, all_freed, connected, first_of, free, leaving, left_by, places_next, slot_next, slot_sends, slot_ticking, AreQueued, SlotIsQueued}
 
--- ---- whether anything is due is the state's to tell
+-- ---- the state says whether anything is due
 
 due-none : (store now : Store) (state : State) (failures others : List Failure) (part other : ℕ) → due_at store state failures part ≡ None
     → due_at now state others other ≡ None

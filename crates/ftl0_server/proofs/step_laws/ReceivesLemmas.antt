@@ -1,4 +1,4 @@
--- A file that is received stays the caller's: behind each row, once what is due was queued, and behind a frame.
+-- A file that is received stays the caller's: after each row, once what is due was queued, and after a frame.
 use Rattle.std.proofs.Common.{◌≡◌, ℕ, suc, List, [], ◌∷◌, ◌++◌, length, refl, ap, sym, subst, ◌∙◌}
 use Rattle.std.proofs.Common.{arith, Bool, true, Option, None, Some}
 use Rattle.std.proofs.lemmas.Bool.{cond_both}
@@ -13,7 +13,7 @@ use Rattle.ftl0_session.proofs.uploads.UploadRows.{theirs-decides}
 use Rattle.ftl0_server.proofs.step_laws.Names.{nat_tests, same_Some, take, option_map, CallSign, IsCall, FrameValue, after_push, Heard, Nothing, Opened, Reopened, Bytes, Closed, LinkEnd, free_octets, after_frame, heard_of, Window, texts, Item, packets_of, fits, AreOf, FollowsBy, IsOwnEntry, AreAllowed, Command, after, after_all, begin, whole_grows, Entry, Store, entry_of, new_entry, AreAllowed-split, after_all-append, find-push, find_past, grows-after, has_number, CallerList, Session, session_over, DuePacket, Row, State, download_part, downloading, due_at, in_session, session_row, state_by, Failure, read_fails, write_fails, OfUploads, if-there, session-case, upload-case, is_theirs, Connected, caller_of, hearing, parts_as, parts_of_frame, Progress, after_due, after_row, failing_at, giving_up, queued, queuing, taking, queued-keeps, ReceivesAfter, ReceivesBehind, ReceivesHeard, ReceivesLaw, ReceivesOwn}
 use Rattle.ftl0_server.proofs.step_laws.RowLemmas.{commands_own, own-grow}
 
--- ---- behind a row
+-- ---- after a row
 
 -- while something is sent or listed no file is received
 downloads-own : (caller : CallSign) (store : Store) (part : download.DownloadState)
@@ -22,11 +22,11 @@ downloads-own caller store download.ready = tt
 downloads-own caller store part = tt
 
 module _ (caller : CallSign) (moment : ℕ) (store : Store) where
-  -- the file that is received behind a row of uploading is the caller's
+  -- the file that is received after a row of uploading is the caller's
   abbrev Receives : upload.Row → Type 0
   Receives row = ReceivesOwn caller (after_all store row.commands) (state_by row.state download.ready)
 
-  -- the file that is begun is the caller's, where no entry has the next number before
+  -- the file that is begun is the caller's, if no entry has the next number before
   begun-own : (len : ℕ) → IsStore store
       → IsOwnEntry caller (after store (begin store.next caller len moment)) store.next
   begun-own len is entry found =
@@ -102,7 +102,7 @@ queued-own caller store failures progress own =
     (due.next_due made (download_part at.state) (read_fails failures at.part)) next is)
     (free_octets progress.end) progress own)
 
--- ---- behind a frame
+-- ---- after a frame
 
 -- what commands of a caller, each of them allowed, make of a store that keeps its rules keeps them
 row-rules : (caller : CallSign) (store : Store) (commands : List Command) → IsStore store → IsCall caller
@@ -112,7 +112,7 @@ row-rules caller store commands is call own allowed =
     let by : FollowsBy caller store now = record { commands = commands; own = own; does = (allowed, refl) } in
     (follows_law.entries store now is (follows_law.others caller store now is call by).0).rules
 
--- where the commands of the parts are allowed, the file that is received behind them is the caller's
+-- if the commands of the parts are allowed, the file that is received after them is the caller's
 abbrev IsKept : CallSign → Store → Progress → Type 0
 IsKept caller store progress = AreAllowed store progress.done → ReceivesAfter caller store progress
 

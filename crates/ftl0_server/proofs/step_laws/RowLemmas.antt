@@ -47,7 +47,7 @@ module _ (caller : CallSign) (n : ℕ) where
   own-held [] store own = tt
   own-held (octet ∷ octets) store own = (own, tt)
 
--- where a file that is received is the caller's, each command of a row of uploading is its own
+-- if a file that is received is the caller's, each command of a row of uploading is its own
 uploads-own : (caller : CallSign) (moment : ℕ) (store : Store) (fails : Bool)
     → OfUploads caller moment store fails (λ part item row. ReceivesOwn caller store (state_by part download.ready) → AreOf caller store row.commands)
 uploads-own caller moment store fails = record {
@@ -72,7 +72,7 @@ commands_own caller moment store lists =
 
 -- ---- what a read that fails changes
 
--- where a read fails it is what it is where none does, or this
+-- when a read fails, it is what it is when none does, or this
 abbrev Tells : {X : Type 0} → X → (Bool → X) → Type 0
 Tells failed by_read = (by_read true ≡ by_read false) ⊎ (by_read true ≡ failed)
 
@@ -104,7 +104,7 @@ module _ (caller : CallSign) (store : Store) (lists : List CallerList) where
       (chosen (nat_lt 2047 (length tokens)) (tree_in tokens))
   asked-tells packet = inl refl
 
-  -- the row of downloading tells of a read only where a command is waited for
+  -- the row of downloading reports a failed read only if a command is waited for
   abbrev TellsReady : State → (Bool → Option DownloadRow) → Type 0
   TellsReady state row = (row true ≡ row false) ⊎ ((state ≡ command) × (row true ≡ Some (refused_row lists 3)))
 
@@ -129,7 +129,7 @@ module _ (caller : CallSign) (store : Store) (lists : List CallerList) where
   upload-tells moment state item = inl refl
 
   module _ (state : State) (item : Item) (unread : Option upload.Row) (other : Bool → Option DownloadRow) (tells : TellsReady state other) where
-    -- with this row of uploading where a read fails, and this one where none does
+    -- with this row of uploading when a read fails, and this one when none does
     abbrev TellsAmong : Option upload.Row → Option upload.Row → Type 0
     TellsAmong failed fine =
         TellsOfRead lists state unread (λ fails. if fails then row_among lists state item failed (other true) else row_among lists state item fine (other false))

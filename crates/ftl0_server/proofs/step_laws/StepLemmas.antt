@@ -1,4 +1,4 @@
--- What a step of a server sends goes by places.
+-- What a step of a server sends is sent place by place.
 use Rattle.std.proofs.Common.{◌≡◌, ℕ, zero, suc, List, [], ◌∷◌, ◌++◌, get_or, Bool, true, false, ◌&&◌, Option, None, Some, refl, sym, ap, ap₂, subst, ◌∙◌, append-nil}
 use Rattle.std.specs.Prelude.{if◌then◌else◌}
 use Rattle.std.proofs.lemmas.List.Quantifiers.{position-Some}
@@ -83,7 +83,7 @@ module _ (w : Window) where
       let rest = places-none slots drains.3 drains.1 both.1 drains.7 in
       (drains.4 ∙ ap₂ (λ (own others : List FrameValue). own ++ others) one.0 rest.0, drains.5 ∙ ap₂ (λ (now : Slot) (later : List Slot). now ∷ later) one.1 rest.1)
 
-  -- the first place sends this, or those behind it send that
+  -- the first place sends this, or those after it send that
   module _ (slot : Slot) (slots last : List Slot) (frames : List FrameValue)
       (each : (sends : PlacesSend) (others : List FrameValue) (later : List Slot) → places_next w slots ≡ Some sends → SlotsDrain w sends.after others later
       → SlotsDrain w slots (sends.frame ∷ others) later) where
@@ -117,7 +117,7 @@ module _ (w : Window) where
   places-step (slot ∷ slots) sends frames last is drains =
       step-by slot slots last frames (λ next others later. places-step slots next others later) (slot_next w slot) (places_next w slots) sends refl refl is drains
 
-  -- where nothing was to be sent, the place that is another one now sends alone
+  -- if nothing was to be sent, the place that is another one now sends alone
   pub alone-at : (slots last : List Slot) (place : ℕ) (slot old : Slot) (frames : List FrameValue) → places_next w slots ≡ None → slice_get slots place ≡ Some old
       → SlotsDrain w (slice_set slots place slot) frames last → (now : Slot) × SlotDrains w slot frames now × (last ≡ slice_set slots place now)
   alone-at [] last place slot old frames none there drains = absurd cc

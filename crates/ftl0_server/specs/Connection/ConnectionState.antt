@@ -27,7 +27,7 @@ pub record ConnectionState : Type 0 where
   pub octets : List ℕ
   pub session : SessionState
 
--- The connection stands for this one, whose session's octets that wait are the store's to tell.
+-- The connection stands for this one, and the store says which octets of its session wait.
 pub record IsConnection (w : Window) (store : StoreState) (connection : ConnectionState) (c : Connected) : Type 0 where
   pub link : StandsFor w connection.link c.end
   pub rest : connection.octets ≡ c.rest
@@ -49,7 +49,7 @@ abbrev pub is_over : Fate → Bool
 is_over Stays = false
 is_over Ends = true
 
--- what the connection stands for now: where its session is over, for what its link has still to send
+-- what the connection stands for now: if its session is over, for what its link has still to send
 abbrev pub StandsAfter : Window → StoreState → ConnectionState → Bool → Connected → Fate → Type 0
 StandsAfter w store connection over after Stays = (over ≡ false) × IsConnection w store connection after
 StandsAfter w store connection over after Ends = (over ≡ true) × StandsFor w connection.link after.end
@@ -59,10 +59,10 @@ abbrev pub IsAfter : Window → StoreState → List CallerList → ConnectionSta
 IsAfter w store lists connection happened fate =
     (lists ≡ happened.lists) × StandsAfter w store connection happened.over happened.after fate
 
--- What a frame that is heard does, where `event` gives what it makes of the connection by the writes and syncs that
--- fail in it. Where all was taken none failed, and its commands are done. Where the disk failed, at a write or a sync
--- of some packet and nowhere else, the commands before it are done, and it failed in one of that packet's; the replies
--- before it and code 3 are left to be sent. The count of failed reads rose by at least as many as the parts told of.
+-- What a frame that is heard does. `event` gives what it makes of the connection by the writes and syncs that fail in
+-- it. If all was taken, none failed, and its commands are done. If the disk failed, at a write or a sync of some packet
+-- and nowhere else, the commands before it are done, and it failed in one of that packet's; the replies before it and
+-- code 3 are left to be sent. The count of failed reads rose by at least as many as the parts reported.
 abbrev pub HearsBy :
     {D : Type 0} → Ghosts D → Window → (List Failure → Happened) → AtDisk StoreState D → WorkingOn D → ConnectionState
     → Fate → Result ⊤ DiskFault → Type 0
@@ -75,13 +75,13 @@ HearsBy g w event before now connection fate (Err fault) =
     × CutsOffAmongReads g ⊤ (event (failed_write part)).missed before (at now.store now.disk)
     (event (failed_write part)).done (event (failed_write part)).cut
 
--- what an event makes by the writes and syncs that fail in it, where reads fail at these parts
+-- what an event makes by the writes and syncs that fail in it, if reads fail at these parts
 abbrev pub with_reads : {X : Type 0} → (List Failure → X) → List ℕ → List Failure → X
 with_reads event parts writes = event (writes ++ failed_reads parts)
 
 -- A frame was heard, of which this is what it makes of the connection by the failures of the disk; reads failed at
--- these parts of it. Since it came each image stands for the store after the first of the commands that it has where no
--- write and no sync fails, for some number of them. Where there was no stop the store is the one after all of them.
+-- these parts of it. Since it came each image stands for the store after the first of the commands that it has when no
+-- write and no sync fails, for some number of them. If there was no stop, the store is the one after all of them.
 pub record Hears {D : Type 0} (g : Ghosts D) (w : Window) (event : List Failure → Happened)
     (before : AtDisk StoreState D) (now : WorkingOn D) (connection : ConnectionState)
     (heard : Fate × Result ⊤ DiskFault) : Type 0 where

@@ -79,7 +79,7 @@ IsGoing told = told ≡ (Stays, Ok tt)
 abbrev pub carrying : Kept → List ℕ → SessionState → ConnectionState
 carrying link octets session = record { link = link; octets = octets; session = session }
 
--- the part is one of so many, the first of which has this number
+-- the part is one of this many, the first of which has this number
 abbrev pub IsAmong : ℕ → ℕ → ℕ → Type 0
 IsAmong first count part = (first ≤ part) × (part < first + count)
 
@@ -87,14 +87,14 @@ IsAmong first count part = (first ≤ part) × (part < first + count)
 abbrev pub session_on : {D : Type 0} → Ghosts D → SessionState → WorkingOn D → Session
 session_on g session on = session_over (store_on g on.store on.disk) on.lists (state_in on.store session)
 
--- what these packets make of a connection with this session, where the first of them is the event's part of this number
+-- what these packets make of a connection with this session, if the first of them is the event's part of this number
 abbrev pub taking_some :
     {D : Type 0} → Ghosts D → ℕ → SessionState → WorkingOn D → LinkEnd → List Item → ℕ → List Failure → Happened
 taking_some g moment session on end items first failures =
     progressed [] (taking (caller_of session) moment (session_on g session on) end items failures first)
 
--- Packets were taken, of which this event is what they make, and reads failed at these of their parts. Where there was
--- no stop the store is the one after all commands.
+-- Packets were taken, of which this event is what they make, and reads failed at these of their parts. If there was no
+-- stop, the store is the one after all commands.
 pub record TakesPackets {D : Type 0} (g : Ghosts D) (w : Window) (event : List Failure → Happened)
     (IsPart : ℕ → Type 0) (before : AtDisk StoreState D) (now : WorkingOn D) (connection : ConnectionState)
     (told : Fate × Result ⊤ DiskFault) : Type 0 where
@@ -110,8 +110,8 @@ abbrev pub IsSeen : {D : Type 0} → Ghosts D → ℕ → SessionState → Worki
 IsSeen g moment session on items =
     IsKnown g on.disk ⊎ ((¬ IsKnown g on.disk) × LookAtNone (caller_of session) moment (session_on g session on) items)
 
--- So these packets of a connection were taken, whichever end its link stands for, and whichever part the first is,
--- where it is known what octets the files have, or none is looked at.
+-- So these packets of a connection were taken, whichever end its link stands for, and whichever part the first is, if
+-- it is known what octets the files have, or none is looked at.
 abbrev pub TakesSome :
     {D : Type 0} → Ghosts D → ℕ → ConnectionState → WorkingOn D → List Item → WorkingOn D → ConnectionState
     → (Fate × Result ⊤ DiskFault) → Type 0
@@ -126,8 +126,8 @@ abbrev pub TakesOne :
     → (Fate × Result ⊤ DiskFault) → Type 0
 TakesOne g moment item old new before now told = TakesSome g moment old before (item ∷ []) now new told
 
--- Packets at the front of the octets were taken, up to one that stops the connection, if one does: the rest are those
--- of the octets that are left now.
+-- Packets at the beginning of the octets were taken, up to one that stops the connection, if one does: the rest are
+-- those of the octets that are left now.
 pub record Feeds {D : Type 0} (g : Ghosts D) (moment : ℕ) (old new : ConnectionState) (before now : WorkingOn D)
     (told : Fate × Result ⊤ DiskFault) : Type 0 where
   pub items : List Item
@@ -154,8 +154,8 @@ pub record IsSettled (event : List Failure → Progress) (parts : List ℕ) : Ty
       (more : List ℕ) → All (λ part. (event (failed_reads parts)).part ≤ part) more
       → event (failed_reads (parts ++ more)) ≡ event (failed_reads parts)
 
--- A frame was heard, of which this event is what its packets make, and these octets were left; what is due behind them
--- isn't queued yet. Where a write or a sync fails the session is over.
+-- A frame was heard, of which this event is what its packets make, and these octets were left; what is due after them
+-- isn't queued yet. If a write or a sync fails, the session is over.
 pub record HearsParts {D : Type 0} (g : Ghosts D) (w : Window) (left : List ℕ) (event : List Failure → Progress)
     (before : AtDisk StoreState D) (now : WorkingOn D) (connection : ConnectionState)
     (told : Fate × Result ⊤ DiskFault) : Type 0 where
@@ -163,8 +163,8 @@ pub record HearsParts {D : Type 0} (g : Ghosts D) (w : Window) (left : List ℕ)
   pub over : (failures : List Failure) → (event failures).halt ≡ fails → (event failures).over ≡ true
   pub settled : IsGoing told → IsSettled event hears.parts
 
--- A frame was heard at this moment, of whichever connection this stood for: where it is known what octets the files
--- have, or no octet of a file is looked at, it is of that connection what the frame makes before what is due is queued.
+-- A frame was heard at this moment, of whichever connection this stood for: if it is known what octets the files have,
+-- or no octet of a file is looked at, it is of that connection what the frame makes before what is due is queued.
 abbrev pub HearsFrameParts :
     {D : Type 0} → Ghosts D → ℕ → FrameValue → WorkingOn D → WorkingOn D → ConnectionState → ConnectionState
     → Fate × Result ⊤ DiskFault → Type 0
@@ -194,7 +194,7 @@ IsNothingDue g store disk session =
 abbrev pub AreFree : Kept → (ℕ → Type 0) → Type 0
 AreFree link P = (w : Window) (end : LinkEnd) → StandsFor w link end → P (free_octets end)
 
--- What is due next was queued, where enough octets were free.
+-- What is due next was queued, if enough octets were free.
 pub record QueuesPacket {D : Type 0} (g : Ghosts D) (store : StoreState) (disk disk_now : D) (old new : ConnectionState)
     : Type 0 where
   pub fails : Bool
@@ -205,7 +205,7 @@ pub record QueuesPacket {D : Type 0} (g : Ghosts D) (store : StoreState) (disk d
   pub state : state_in store new.session ≡ due.state
   pub reads : DoesAmongReads g ⊥ (one_if (tells_failed_read due.packet)) store store disk disk_now []
 
--- the same; or nothing is due, or fewer octets are free, and it stands as it stood
+-- the same; or nothing is due, or fewer octets are free, and it is as it was
 abbrev pub QueuesBy :
     {D : Type 0} → Ghosts D → StoreState → D → D → ConnectionState → ConnectionState → Bool → Type 0
 QueuesBy g store disk disk_now old new true = QueuesPacket g store disk disk_now old new
@@ -213,16 +213,15 @@ QueuesBy g store disk disk_now old new false =
     (new.link ≡ old.link) × (state_in store new.session ≡ state_in store old.session) × (disk_now ≡ disk)
     × (IsNothingDue g store disk old.session ⊎ AreFree old.link (λ free. free < enough_free))
 
--- So it is where it is known what octets the files have, or nothing is due. Whether or not, a packet that is queued
--- takes some of the room.
+-- So it is if it is known what octets the files have, or nothing is due. Whether or not, a packet that is queued takes
+-- some of the room.
 pub record QueuesNext {D : Type 0} (g : Ghosts D) (store : StoreState) (disk disk_now : D) (old new : ConnectionState)
     (queued : Bool) : Type 0 where
   pub queues : IsKnown g disk ⊎ NoneDue (state_in store old.session) → QueuesBy g store disk disk_now old new queued
   pub fewer : queued ≡ true → room_of new.link.queue < room_of old.link.queue
 
--- Behind these parts of an event, at which the session goes on, what is due was queued: reads failed at these later
--- parts, and the count of failed reads rose by at least as many as the packets tell of, and not where they tell of
--- none.
+-- After these parts of an event, at which the session goes on, what is due was queued: reads failed at these later
+-- parts, and the count of failed reads rose by at least as many as the packets report, and not if they report none.
 pub record Queued {D : Type 0} (g : Ghosts D) (w : Window) (store : StoreState) (disk disk_now : D)
     (new : ConnectionState) (progress : Progress) : Type 0 where
   pub parts : List ℕ
@@ -236,7 +235,7 @@ pub record Queued {D : Type 0} (g : Ghosts D) (w : Window) (store : StoreState) 
   pub reads : DoesAmongReads g ⊥ missed store store disk disk_now []
   pub store_is : store_on g store disk_now ≡ store_on g store disk
 
--- the same behind whichever parts, where it is known what octets the files have, or nothing is due
+-- the same after whichever parts, if it is known what octets the files have, or nothing is due
 abbrev pub QueuesDue : {D : Type 0} → Ghosts D → StoreState → D → D → ConnectionState → ConnectionState → Type 0
 QueuesDue g store disk disk_now old new =
     IsKnown g disk ⊎ NoneDue (state_in store old.session) → (w : Window) (progress : Progress)

@@ -20,7 +20,7 @@ use Rattle.ftl0_server.specs.Connection.Connected.{Connected, caller_of, greeted
 use Rattle.ftl0_server.specs.Connection.Taking.{Halt, LookAtNone, Progress, queued, resting, taking}
 
 -- What an event makes of a connection: what it is now, and the lists of all callers; whether its session is over, so
--- that only its link's last frames are left; how many parts of the event told that a read failed; the store's
+-- that only its link's last frames are left; how many parts of the event reported that a read failed; the store's
 -- commands that are done, and those in one of which the disk failed; and why no more of the event was taken.
 pub record Happened : Type 0 where
   pub after : Connected
@@ -54,8 +54,8 @@ abbrev pub taking_octets : ℕ → Store → List CallerList → Connected → L
 taking_octets moment store lists c end octets failures =
     taking (caller_of c) moment (session_over store lists c.state) end (packets_of (c.rest ++ octets)) failures 0
 
--- What the parts of a frame make of a connection whose end is this one after it, by what the link tells: a further SABM
--- ends the session and begins a new one, information that is next brings packets, and the session is over where the
+-- What the parts of a frame make of a connection whose end is this one after it, by what the link reports: a further
+-- SABM ends the session and begins a new one, information that is next brings packets, and the session is over if the
 -- link is down. These are the event's failures.
 abbrev pub parts_as : Heard → ℕ → Store → List CallerList → Connected → LinkEnd → List ℕ → List Failure → Progress
 parts_as Nothing moment store lists c end octets failures = resting end c.state lists 0
@@ -93,12 +93,12 @@ hearing w moment store lists c frame failures =
 abbrev pub NoneDue : State → Type 0
 NoneDue state = is_due (download_part state) ≡ false
 
--- nothing is due behind these parts, if the session goes on
+-- nothing is due after these parts, if the session goes on
 abbrev pub NoneDueBehind : Progress → Type 0
 NoneDueBehind progress = progress.over ≡ false → NoneDue progress.state
 
--- By what the link tells of a frame no octet of a file is looked at: no packet comes, or packets come for which none
--- is; and nothing is due behind them.
+-- By what the link reports of a frame no octet of a file is looked at: no packet comes, or packets come for which none
+-- is; and nothing is due after them.
 abbrev pub LooksAtNoneAs : Heard → ℕ → Store → List CallerList → Connected → LinkEnd → List ℕ → Type 0
 LooksAtNoneAs Nothing moment store lists c end octets = NoneDue c.state
 LooksAtNoneAs Opened moment store lists c end octets = NoneDue c.state
@@ -118,6 +118,6 @@ pub record Ticked : Type 0 where
   pub after : Connected
   pub over : Bool
 
--- Where the peer doesn't answer the session is over. A tick frees no octets, so nothing more of what is due is queued.
+-- If the peer doesn't answer, the session is over. A tick frees no octets, so nothing more of what is due is queued.
 abbrev pub ticking : Connected → Ticked
 ticking c = record { after = with_end c (after_tick c.end); over = is_there (told_of_tick c.end) }

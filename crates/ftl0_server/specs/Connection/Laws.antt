@@ -11,21 +11,21 @@ use Rattle.ftl0_session.specs.Uploads.Failures.{Failure, write_fails}
 use Rattle.ftl0_session.specs.Table.{Row, State, due_at, row_at}
 use Rattle.ftl0_server.specs.Connection.Taking.{Progress, goes_on, queued, taking}
 
--- Behind the commands of the packets before it those of a packet's row are done, and others behind these.
+-- After the commands of the packets before it those of a packet's row are done, and others after these.
 pub record TakesUpTo (before row all : List Command) : Type 0 where
   pub others : List Command
   pub done_is : all ≡ before ++ (row ++ others)
 
--- the row of the packet behind these, over the store after their commands, with the lists and in the state after them
+-- the row of the packet after these, over the store after their commands, with the lists and in the state after them
 abbrev pub row_behind : CallSign → ℕ → Session → LinkEnd → List Item → List Failure → Item → Row
 row_behind caller moment session end items failures item =
     let progress : Progress = taking caller moment session end items failures 0 in
     row_at caller moment (after_all session.store progress.done) progress.lists progress.state item failures
     (length items)
 
--- Where packets before one were all taken, the session goes on after them, and no write or sync fails at that packet,
--- it is taken over the store after their commands, with the lists and in the state after them, and its row's commands
--- are done behind theirs.
+-- If packets before one were all taken, the session goes on after them, and no write or sync fails at that packet, it
+-- is taken over the store after their commands, with the lists and in the state after them, and its row's commands are
+-- done after theirs.
 abbrev pub TakingLaw : Type 0
 TakingLaw =
     (caller : CallSign) (moment : ℕ) (session : Session) (end : LinkEnd) (items : List Item) (item : Item)

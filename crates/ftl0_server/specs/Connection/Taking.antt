@@ -1,4 +1,4 @@
--- What the packets of a frame make of a connection, one after another, and what is queued of what is due behind them.
+-- What the packets of a frame make of a connection, one after another, and what is queued of what is due after them.
 use Rattle.std.specs.Prelude.{◌≡◌, ℕ, ◌+◌, suc, List, [], ◌∷◌, ◌++◌, Bool, true, false, if◌then◌else◌, ⊤}
 use Rattle.px_base.specs.CallSign.{CallSign}
 use Rattle.ax25_link.specs.Calls.{after_abandon, after_push}
@@ -17,7 +17,7 @@ use Rattle.ftl0_session.specs.Uploads.Failures.{Failure, write_fails}
 use Rattle.ftl0_session.specs.Table.{DuePacket, Row, State, command, due_at, fault_reply, row_at, failed_reads_told}
 use Rattle.ftl0_session.specs.Table.{session_row, tells_failed_read}
 
--- the end after replies of this text: they are queued, or the link is given up where they don't fit
+-- the end after replies of this text: they are queued, or the link is given up if they don't fit
 abbrev pub replied : LinkEnd → List ℕ → LinkEnd
 replied end text = if fits end text then after_push end text else after_abandon end
 
@@ -28,7 +28,7 @@ pub data Halt : Type 0 where
   fails : Halt
 
 -- What the parts of an event make of a connection: its end and its session's state, and the lists of all callers; the
--- number of the event's next part; whether the session is over; how many parts told that a read failed; the store's
+-- number of the event's next part; whether the session is over; how many parts reported that a read failed; the store's
 -- commands that are done, and those in one of which the disk failed; and why no more was taken.
 pub record Progress : Type 0 where
   pub end : LinkEnd
@@ -95,8 +95,8 @@ giving_up end row part =
       halt = goes_on;
     }
 
--- What a packet with this row makes: a write or a sync fails or none does, and its replies fit or don't. Behind it
--- comes what is given.
+-- What a packet with this row makes: a write or a sync fails or none does, and its replies fit or don't. After it comes
+-- what is given.
 abbrev pub taking_row : LinkEnd → State → List CallerList → ℕ → Bool → Progress → Row → Progress
 taking_row end state lists part failed later row =
     if failed then failing_at end state lists row part
@@ -136,14 +136,14 @@ after_due due progress =
       missed = progress.missed + one_if (tells_failed_read due.packet);
     }
 
--- Packets that are due are queued, one after another, each a part of the event, while enough octets are free: so many
--- of them at most.
+-- Packets that are due are queued, one after another, each a part of the event, while enough octets are free: this
+-- number of them at most.
 abbrev pub queuing : ℕ → Store → List Failure → Progress → Progress
 queuing more store failures progress =
     filling (λ at. at.end) (λ at. due_at store at.state failures at.part) after_due more progress
 
--- At the end of an event DATA and DATA_END that are due are queued while enough octets are free, but not where the
--- session is over. Each takes some of the octets that are free, so there are no more of them than that.
+-- At the end of an event DATA and DATA_END that are due are queued while enough octets are free, but not if the session
+-- is over. Each takes some of the octets that are free, so there are no more of them than that.
 abbrev pub queued : Store → List Failure → Progress → Progress
 queued store failures progress =
     if progress.over then progress

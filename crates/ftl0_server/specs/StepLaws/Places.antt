@@ -32,7 +32,7 @@ SlotsDrain w (slot ∷ slots) frames last =
     (own : List FrameValue) × (others : List FrameValue) × (now : Slot) × (later : List Slot)
     × (frames ≡ own ++ others) × (last ≡ now ∷ later) × SlotDrains w slot own now × SlotsDrain w slots others later
 
--- the DM to a station without a connection, where one is to be sent
+-- the DM to a station without a connection, if one is to be sent
 abbrev pub refusals : CallSign → Option Refused → List FrameValue
 refusals me None = []
 refusals me (Some refused) = refusal_frame me refused ∷ []
@@ -54,7 +54,7 @@ pub record ChangesAt (old : Server) (place : ℕ) (slot : Slot) (gives : Stepped
   pub slots_are : gives.new.slots ≡ all_freed (slice_set old.slots place now)
 
 -- So of a frame. One of a station that has a connection changes that one's place alone; SABM of any other station that
--- of the lowest empty place, where one is; any other frame changes none, and is passed over, or replied by DM.
+-- of the lowest empty place, if there is one; any other frame changes none, and is ignored, or replied by DM.
 pub record HearsByPlaces (old : Server) (frame : FrameValue) (moment : ℕ) (failures : List Failure) (gives : Stepped) :
     Type 0 where
   pub heard :
@@ -71,7 +71,7 @@ pub record HearsByPlaces (old : Server) (frame : FrameValue) (moment : ℕ) (fai
       → (gives.frames ≡ refusals old.me (hearing_stranger old frame moment).stray)
       × (gives.new.slots ≡ all_freed old.slots)
 
--- Each step goes by places, and each of a frame by one place.
+-- Each step is made place by place, and each of a frame at one place.
 pub record StepLaw : Type 0 where
   pub each :
       (old : Server) (event : NodeEvent) (failures : List Failure) (gives : Stepped)

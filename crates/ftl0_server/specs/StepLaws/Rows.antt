@@ -20,7 +20,7 @@ use Rattle.ftl0_server.specs.Connection.Connected.{Connected, caller_of}
 use Rattle.ftl0_server.specs.Connection.Hearing.{Happened, hearing}
 use Rattle.ftl0_server.specs.Connection.Taking.{Progress, queued}
 
--- the file that is received in this state, where one is, is the caller's
+-- the file that is received in this state, if there is one, is the caller's
 abbrev pub ReceivesOwn : CallSign → Store → State → Type 0
 ReceivesOwn caller store command = ⊤
 ReceivesOwn caller store (receiving number rest) = IsOwnEntry caller store number
@@ -29,28 +29,28 @@ ReceivesOwn caller store (sending number place last) = ⊤
 ReceivesOwn caller store waiting = ⊤
 ReceivesOwn caller store (listing dues) = ⊤
 
--- Where a file that is received is the caller's, each command of a packet's row begins a file as the caller, or is of
--- an entry that is the caller's in its turn.
+-- If a file that is received is the caller's, each command of a packet's row begins a file as the caller, or is of an
+-- entry that is the caller's in its turn.
 abbrev pub CallerLaw : Type 0
 CallerLaw =
     (caller : CallSign) (moment : ℕ) (store : Store) (lists : List CallerList) (state : State) (item : Item)
     (fails : Bool) → ReceivesOwn caller store state
     → AreOf caller store (session_row caller moment store lists state item fails).commands
 
--- the file that is received behind a row, over the store after its commands, is the caller's
+-- the file that is received after a row, over the store after its commands, is the caller's
 abbrev pub ReceivesBehind : CallSign → Store → Row → Type 0
 ReceivesBehind caller store row = ReceivesOwn caller (after_all store row.commands) row.state
 
--- the same behind the parts of an event that were taken over this store
+-- the same after the parts of an event that were taken over this store
 abbrev pub ReceivesAfter : CallSign → Store → Progress → Type 0
 ReceivesAfter caller store progress = ReceivesOwn caller (after_all store progress.done) progress.state
 
--- the same of a connection behind an event over this store
+-- the same of a connection after an event over this store
 abbrev pub ReceivesHeard : CallSign → Store → Happened → Type 0
 ReceivesHeard caller store happened = ReceivesOwn caller (after_all store happened.done) happened.after.state
 
--- Where a file that is received is the caller's, over a store that keeps its rules, the one that is received behind a
--- packet's row is too, and the one once what is due was queued. So is the one behind a whole frame each of whose
+-- If a file that is received is the caller's, over a store that keeps its rules, the one that is received after a
+-- packet's row is too, and the one once what is due was queued. So is the one after a whole frame each of whose
 -- commands is allowed in its turn.
 pub record ReceivesLaw : Type 0 where
   pub rows :
@@ -71,8 +71,8 @@ abbrev pub failed_row : List CallerList → State → Row
 failed_row lists state =
     record { state = state; lists = lists; commands = []; replies = dl_error_resp (octet_of error.ServerFsys) ∷ [] }
 
--- The row where a read fails is the one where none does; or it tells of it by code 3, and does nothing else; or it is
--- this row of a file that can't be read, where there is one.
+-- The row when a read fails is the one when none does; or it reports it by code 3, and does nothing else; or it is this
+-- row of a file that can't be read, if there is one.
 abbrev pub TellsOfRead : List CallerList → State → Option upload.Row → (Bool → Row) → Type 0
 TellsOfRead lists state unread row =
     (row true ≡ row false) ⊎ ((row true ≡ failed_row lists state)
@@ -85,11 +85,11 @@ ReadsLaw =
     → TellsOfRead lists state (upload.row_unread store (upload_part state) item)
     (session_row caller moment store lists state item)
 
--- DL_ERROR_RESP 3 in the place of what was due, and the session waits for a command
+-- DL_ERROR_RESP 3 instead of what was due, and the session waits for a command
 abbrev pub failed_due : DuePacket
 failed_due = record { packet = dl_error_resp (octet_of error.ServerFsys); state = command }
 
--- What is sent next where a read fails is what is sent next where none does; or it is code 3 in its place.
+-- What is sent next when a read fails is what is sent next when none does; or it is code 3 in its place.
 abbrev pub DueReadsLaw : Type 0
 DueReadsLaw =
     (store : Store) (state : State)

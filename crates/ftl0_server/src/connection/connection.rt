@@ -88,9 +88,9 @@ impl Connection {
     /// row of the link's table, and for information that is next in the stream the packets' rows of the session's
     /// table. Their commands are on the disk before any frame of the event is given out. A reply for which the link has
     /// no room ends the session by DM. Then DATA and DATA_END that are due are queued while at least 1,280 octets are
-    /// free. A read of the disk that fails is told by code 3, and the session goes on. After a fault nothing more is
-    /// queued, and the server goes on no further: the frames that are pending are given out first, code 3 among them.
-    /// Takes no memory.
+    /// free. A read of the disk that fails is reported by code 3, and the session goes on. After a fault nothing more
+    /// is queued, and the server goes on no further: the frames that are pending are given out first, code 3 among
+    /// them. Takes no memory.
     pub fn hear<D: Disk>(
         &mut self,
         disk: &mut D,
@@ -101,7 +101,7 @@ impl Connection {
     ) -> Told
         requires { MayHear D.Disk store.old disk.old lists.old self.old (value_of frame.now) }
 
-        // Of whichever connection it stands for, it is what the frame makes of that, or the server stops, where it is
+        // Of whichever connection it stands for, it is what the frame makes of that, or the server stops, if it is
         // known what octets the files have, or no octet of a file is looked at.
         ensures hears { HearsFrame D.Disk moment (value_of frame.now)
             (working_on store.old lists.old disk.old) (working_on store.new lists.new disk.new)
@@ -118,8 +118,8 @@ impl Connection {
         told
     }
 
-    /// Counts a tick, while nothing is pending (AX.25 2.0, 2.4.7): the session is over where the caller doesn't answer
-    /// any more. Takes no memory.
+    /// Counts a tick, while nothing is pending (AX.25 2.0, 2.4.7): the session is over if the caller doesn't answer any
+    /// more. Takes no memory.
     pub fn tick(&mut self) -> Fate
         requires quiet { is_pending self.old.link ≡ false }
         requires up { self.old.link.state ≡ LinkState.Up }
@@ -138,7 +138,7 @@ impl Connection {
     }
 
     /// Replaces `out` by the octets of the next pending frame, which is then sent. It is false, and changes nothing,
-    /// exactly where nothing is pending. Takes no memory.
+    /// exactly when nothing is pending. Takes no memory.
     pub fn next_out(&mut self, out: &mut ArrayVec<u8, 400>) -> bool
         ensures gives { GivesFrame {S = Carried} (λ it. it.link) self.old self.new
             out.old.items out.new.items result }
@@ -182,7 +182,7 @@ impl Connection {
         link
     }
 
-    /// Hears a frame, but that what is due isn't queued yet.
+    /// Hears a frame, except that what is due isn't queued yet.
     fn take_frame<D: Disk>(
         &mut self,
         disk: &mut D,
@@ -226,8 +226,8 @@ impl Connection {
         while self.queue_next(disk, store) {}
     }
 
-    /// Queues what is due next, where enough octets are free. It answers false, and nothing changed, where nothing is
-    /// due, or fewer are free.
+    /// Queues what is due next, if enough octets are free. It answers false, and nothing changed, if nothing is due, or
+    /// fewer are free.
     fn queue_next<D: Disk>(&mut self, disk: &mut D, store: &mut FileStore) -> bool
         requires { MayQueue D.Disk store.old disk.old self.old }
         ensures next { QueuesNext D.Disk store.old disk.old disk.new self.old self.new result }
@@ -244,7 +244,7 @@ impl Connection {
         true
     }
 
-    /// Ends the session, which parks its upload, and begins a new one over the link, which begins anew.
+    /// Ends the session, which parks its upload, and begins a new one over the link, which begins again.
     fn begin_anew(&mut self, store: &mut FileStore, lists: &Lists, moment: Moment)
         requires up { self.old.link.state ≡ LinkState.Up }
         requires held { IsHeld store.old self.old.session.uploads }
@@ -343,7 +343,7 @@ fn greet(link: &mut PacketLink, caller: Call, moment: Moment, lists: &Lists) -> 
     session
 }
 
-/// Queues replies, where the link has room for them; else gives it up by DM, and the session is over.
+/// Queues replies, if the link has room for them; else gives it up by DM, and the session is over.
 fn reply(link: &mut PacketLink, text: &[u8]) -> Fate
     requires { link.old.link.state ≡ LinkState.Up }
     ensures queued { Steps link.old.link link.new.link (λ w end. replied end text.now) }

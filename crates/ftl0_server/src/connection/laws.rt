@@ -2,9 +2,9 @@
 
 ghost use Rattle.ftl0_server.specs.Connection.Laws.{QueuedLaw, TakingLaw};
 
-/// Where the packets before one were all taken, the session goes on, and no write or sync fails at that one, it is
-/// taken over the store after their commands, and the commands of its row are done behind theirs, whatever packets come
-/// behind and whatever reads fail.
+/// If the packets before one were all taken, the session goes on, and no write or sync fails at that one, it is taken
+/// over the store after their commands, and the commands of its row are done after theirs, whatever packets come after
+/// it and whatever reads fail.
 pub fn taking_law()
     ensures { TakingLaw }
 {}

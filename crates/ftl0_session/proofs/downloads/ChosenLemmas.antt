@@ -1,4 +1,4 @@
--- The complete files of which a selection holds, one after another in rising number.
+-- The complete files that match a selection, one after another in rising number.
 use Rattle.std.proofs.Common.{◌≡◌, ℕ, ◌+◌, ◌≤◌, ◌<◌, List, [], ◌∷◌, ◌++◌, length, map, Bool, true, false, cond, Option, None, Some, refl, sym, ap, ◌∙◌, arith, inl, inr, append_assoc}
 use Rattle.ftl0_session.proofs.Names.{find, filter, nat_lt, AllByRecursion, eqb_tells, nat_tests, cases_lt, append-nil, Tree, holds, header_items, IsCompleteIn, IsNextComplete, is_complete, AreEntries, IsStore, Entry, Store, entry_of, octets_at, found-fits, found-number, has_number, chosen, is_chosen, octets_in}
 
@@ -15,7 +15,7 @@ below-none number low next (x ∷ xs) are lt =
     let different : has_number number x ≡ false = grind (arith, nat_tests) in
     rw different (below-none number (x.number + 1) next xs are.4 (omega (arith, are.0, lt)))
 
--- these entries, each behind some, are found
+-- these entries, each after some, are found
 abbrev AreFound : Store → List Entry → Type 0
 AreFound store entries = AllByRecursion (λ (e : Entry). entry_of store e.number ≡ Some e) entries
 
@@ -125,7 +125,7 @@ none-beyond store above (x ∷ xs) found least =
 
 -- ---- the loop over them
 
--- the entry is complete, so it is chosen where the selection holds of its header
+-- the entry is complete, so it is chosen if its header matches the selection
 chosen-is : (tree : Tree) (store : Store) (number : ℕ) (is : IsCompleteIn store number) → is_chosen tree is.0 ≡ holds tree (header_items (octets_in store number))
 chosen-is tree store number is = rw is.2 (ap (λ (o : Option Entry). holds tree (header_items (octets_at o))) (sym is.1))
 

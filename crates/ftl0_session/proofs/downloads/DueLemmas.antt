@@ -3,9 +3,9 @@ use Rattle.std.proofs.Common.{◌≡◌, ℕ, zero, suc, ◌+◌, ◌-◌, ◌�
 use Rattle.std.proofs.lemmas.Grind.{common_steps}
 use Rattle.ftl0_session.proofs.Names.{take-append-add, drop-append-add, take-length, drop-length, cases_lt, drop-append-le, drop-drop, drop-take, length-take, flat_map_more, map-append, take-append-le, take_min, take_more, AllByRecursion, flat_map, list_any, IsCompleteIn, KeepsComplete, Store, entry_of, octets_at, AreStored, IsDueIn, IsStored, LiesIn, after_octets, due_len, due_octets, is_stored, joined, moved, octets_due, state_after, state_at_end, DownloadState, Due, kept, listing, octets_in, ready, sending, stored, waiting}
 
--- ---- fronts and rests of lists
+-- ---- prefixes and rests of lists
 
--- all of a list, where more is asked
+-- all of a list, if more is asked
 pub take-all : (n : ℕ) (xs : List ℕ) → length xs ≤ n → take n xs ≡ xs
 take-all n xs le = sym (take_min n xs) ∙ ap (λ (k : ℕ). take k xs) (least n (length xs) le) ∙ take-length xs
   where
@@ -69,7 +69,7 @@ pub length-due : (store : Store) (due : Due) → IsStored store due → length (
 length-due store (stored number place last) is = length-stored store number place last is
 length-due store (kept octets) is = refl
 
--- so many octets of it lie within it too
+-- this many octets of it lie within it too
 pub lies-moved : (store : Store) (number place last count : ℕ) → LiesIn store number place last
     → LiesIn store number (place + min count (last - place)) last
 lies-moved store number place last count lies = record {
@@ -185,7 +185,7 @@ due-kept before now (listing dues) keeps is = all-kept before now dues keeps is
 
 -- ---- reading what is due, one after another
 
--- one more's octets behind those that are there
+-- one more's octets after those that are there
 pub part-more : (part octets rest : List ℕ) (most : ℕ) → length part ≤ most
     → (part ++ take (most - length part) octets) ++ take (most - length (part ++ take (most - length part) octets)) rest ≡ part ++ take (most - length part) (octets ++ rest)
 part-more part octets rest most few =
@@ -220,7 +220,7 @@ some-at store f (x ∷ xs) (suc i) d lt is some =
 rest-at : {X : Type 0} (xs : List X) (i : ℕ) (d : X) → i < length xs → drop i xs ≡ get_or xs i d ∷ drop (i + 1) xs
 rest-at xs i d lt = rw (add-one, drop-cons xs i d)
 
--- how many octets there are behind one more
+-- how many octets there are after one more
 abbrev pub HasMore : List ℕ → List ℕ → Due → Type 0
 HasMore part octets due = length octets ≡ length part + min (254 - length part) (due_len due)
 

@@ -1,4 +1,4 @@
--- What downloading makes of two stores that are like each other but for the octets of their files.
+-- What downloading makes of two stores that are like each other except for the octets of their files.
 use Rattle.std.proofs.Common.{◌≡◌, ℕ, ◌==◌, ◌<◌, List, [], ◌∷◌, length, Bool, true, false, true≢false, ◌&&◌, Option, None, Some, refl, sym, ap, ap₂, ◌∙◌, arith, inl, inr, length-append}
 use Rattle.std.specs.Prelude.{if◌then◌else◌}
 use Rattle.file_store.specs.declared.refusals.HeaderFault.{HeaderFault}
@@ -113,7 +113,7 @@ module _ (one other : Store) (like : IsStoreLike one other) where
   due-length-like waiting is = refl
   due-length-like (listing dues) is = joined-like dues is
 
--- ---- the row of a directory command, by what memory tells of its files
+-- ---- the row of a directory command, by what memory shows of its files
 
 module _ (caller : CallSign) (files : Store) (lists : List CallerList) (asked : ℕ) (due : Store → List ℕ → List Due) (numbers : List ℕ) (listed : listed_files lists caller asked ≡ numbers)
     (some : (length numbers == 0) ≡ false) where
@@ -127,7 +127,7 @@ module _ (caller : CallSign) (files : Store) (lists : List CallerList) (asked : 
       → directory_row caller files lists asked due false ≡ record { state = listing (due files numbers); lists = lists_after lists caller asked (length numbers); replies = [] }
   row-listed all = ap (λ (l : List ℕ). files_row caller files lists asked due false l) listed ∙ rw (some, all) refl
 
-  -- where headers are read it isn't the same where that fails
+  -- if headers are read, it isn't the same if that fails
   pub rows-differ : list_all (has_file files) numbers ≡ true → directory_row caller files lists asked due true ≡ directory_row caller files lists asked due false → ⊥
   rows-differ all same =
       let replies : dl_error_resp 3 ∷ [] ≡ [] = ap (λ (r : DownloadRow). r.replies) (sym (row-unread_header all) ∙ same ∙ row-listed all) in cc replies
@@ -147,7 +147,7 @@ pub made-is : (state next : DownloadState) (lists lists_now : List CallerList) (
 made-is state next lists lists_now replies said state_is lists_are text =
     ap (λ (s : DownloadState). made s lists replies) state_is ∙ ap (λ (l : List CallerList). made next l replies) lists_are ∙ ap (λ (r : List ℕ). made next lists_now r) text
 
--- a header couldn't be read: code 3, where it is known what the store's files hold only of a read that failed
+-- a header couldn't be read: code 3, and if it is known what the store's files hold, only for a read that failed
 pub header-refused : {D T : Type 0} (g : Ghosts D) (store : StoreState) (disk disk_now : D) (row : Store → Bool → DownloadRow) (lists : List CallerList) (now : Made) (why : HeaderFault)
     (result : Result T HeaderFault) → result ≡ Err why → Reads g (IsErrOf result fault.Disk) disk disk_now → (IsErrOf result fault.NoHeader → ¬ IsKnown g disk)
     → (IsKnown g disk → row (store_on g store disk) true ≡ refused_row lists 3) → (row (store_in store) true ≡ row (store_in store) false → ⊥) → now ≡ made_by (refused_row lists 3)
@@ -171,7 +171,7 @@ header-refused g store disk disk_now row lists now fault.NoHeader result is read
 
 -- ---- what is due next
 
--- code 3, where a read fails
+-- code 3, if a read fails
 pub next-error : (files : Store) (state : DownloadState) → is_due state ≡ true → 0 < length (octets_due files state) → is_read state ≡ true
     → next_due files state true ≡ Some (record { packet = dl_error_resp 3; state = ready })
 next-error files state here some read =

@@ -4,15 +4,15 @@ use Rattle.std.specs.Prelude.{if◌then◌else◌, ◌==◌}
 use Rattle.selection.specs.Reading.{tree_in}
 use Rattle.ftl0_session.proofs.Names.{Ok, Err, IfSome, Result, nat_lt, list_all, option_map, CallSign, PacketValue, dir_long_cmd, dir_short_cmd, dl_aborted_resp, dl_ack_cmd, dl_completed_resp, dl_error_resp, dl_nak_cmd, download_cmd, select_cmd, select_resp, Tree, SelFault, CallerList, Store, DownloadRow, DownloadState, Due, asked_file, asked_row, command_row, download_row, ended_row, file_of, file_row, files_row, has_file, listed_files, listing, long_due, ready, refused_row, reply_sending, reply_waiting, sending, short_due, tree_row, waiting}
 
--- Where a read fails or none does: what holds of no reply, of each refusal but with code 3, of that one where a read
--- fails, and of SELECT_RESP and the ends of a download, holds of each row's replies.
+-- Whether a read fails or none does: what is true of no reply, of each refusal except that with code 3, of that one if
+-- a read fails, and of SELECT_RESP and the ends of a download, is true of each row's replies.
 module _ (fails : Bool) (P : List PacketValue → Type 0) (none : P []) (refused : (code : ℕ) → (code == 3) ≡ false → P (dl_error_resp code ∷ [])) (failed : fails ≡ true → P (dl_error_resp 3 ∷ []))
     (counted : (count : ℕ) → P (select_resp count ∷ [])) (aborted : P (dl_aborted_resp ∷ [])) (completed : P (dl_completed_resp ∷ [])) where
   either : (b : Bool) (first second : DownloadRow) → P first.replies → P second.replies → P (if b then first else second).replies
   either true first second a c = a
   either false first second a c = c
 
-  -- error 3 where this is so
+  -- error 3 if this is so
   read_failed : (b : Bool) (lists : List CallerList) (other : DownloadRow) → (b ≡ true → P (dl_error_resp 3 ∷ [])) → P other.replies → P (if b then refused_row lists 3 else other).replies
   read_failed true lists other fault holds = fault refl
   read_failed false lists other fault holds = holds

@@ -20,7 +20,7 @@ module _ (tokens : List ℕ) (octets : IsOctets tokens) (few : length tokens ≤
   selects-none (Err fault) refuses = λ caller store lists fails.
       rw (within tokens few) (ap (tree_row caller store lists fails) ((one_fault tokens fault octets).0 ((refuses fault).0 refl)))
 
--- where headers are read the row isn't the same where that fails
+-- if headers are read, the row isn't the same if that fails
 pub selects-differ : (tokens : List ℕ) (tree : Tree) → SelectsBy tokens tree → (caller : CallSign) (store : Store) (lists : List CallerList)
     → select_row caller store lists tokens true ≡ select_row caller store lists tokens false → ⊥
 selects-differ tokens tree selects caller store lists same =

@@ -1,4 +1,4 @@
--- What is sent where no read fails: all that is due, and DATA_END.
+-- What is sent if no read fails: all that is due, and DATA_END.
 use Rattle.std.proofs.Common.{◌≡◌, ◌≢◌, ℕ, zero, suc, ◌-◌, ◌==◌, ◌≤◌, ◌<◌, List, [], ◌∷◌, ◌++◌, length, map, take, drop, Bool, true, false, None, Some, refl, ap, ◌∙◌, subst, arith, inl, inr, length-append, length-drop}
 use Rattle.ftl0_session.specs.Downloads.Sending.{next_due}
 use Rattle.ftl0_session.proofs.Names.{nat_lt, flat_map, take-append_seam, cases_lt, nat_tests, append-nil, take-append-drop, All-head, All-tail, CallSign, data_end, data_part, download_cmd, CallerList, IsHeaderOf, body_octets, header_octets, IsCompleteIn, Store, BeginWithHeaders, IsSent, Sends, SendsAll, AreStored, IsDueIn, LiesIn, due_octets, is_due, joined, most_data, octets_due, state_after, state_at_end, DownloadRow, DownloadState, command_row, download_row, file_of, header_due, lists_after, listing, long_due, octets_in, ready, sending, short_due, short_octets, stored, waiting}

@@ -1,4 +1,4 @@
--- Whose list a list is, and where a caller's stands.
+-- Whose list a list is, and where a caller's is.
 use Rattle.std.proofs.Common.{◌≡◌, ◌≢◌, ℕ, ◌-◌, ◌<◌, ◌≤◌, true, false, List, [], length, drop, find, position, remove, None, Some, get_or, sym, ◌∙◌, ap, ap₂, arith}
 use Rattle.std.specs.Prelude.{◌==◌}
 use Rattle.std.specs.Bool.{Decides}
@@ -22,7 +22,7 @@ pub not-both : (caller owner : CallSign) (list : CallerList) → owner ≢ calle
 not-both caller owner list other is =
     not-of caller list (λ same. other (sym ((same-call list.caller owner).0 is) ∙ same))
 
--- at most so many are all of them
+-- if there are at most this many, the last ones are all of them
 pub last_of-all : (count : ℕ) (lists : List CallerList) → length lists ≤ count → last_of count lists ≡ lists
 last_of-all count lists few = ap (λ (n : ℕ). drop n lists) (let none : length lists - count ≡ 0 = omega arith in none)
 

@@ -7,7 +7,7 @@ use Rattle.ftl0_session.proofs.lists.OnePasses.{fewer-left, find-in_rest, find-m
 use Rattle.ftl0_session.proofs.lists.Selecting.{IsLists-selected, few-others, own}
 use Rattle.ftl0_session.proofs.lists.Taking.{IsLists-taken, same-caller, same-owner, short}
 
--- The caller's list of these numbers stands, with at most so many behind it.
+-- The caller's list of these numbers is there, with at most this many after it.
 record Stands (lists : List CallerList) (caller : CallSign) (numbers : List ℕ) (most : ℕ) : Type 0 where
   pub front : List CallerList
   pub back : List CallerList
@@ -102,7 +102,7 @@ module _ (lists : List CallerList) (caller owner : CallSign) (numbers : List ℕ
       ∙ ap (λ (b : Bool). option_or (find (is_of owner) ls) (cond b (Some (own caller numbers)) None)) (not-of owner (own caller numbers) (λ same. other (sym same)))
       ∙ or-none (find (is_of owner) ls)
 
-  -- where the others' are fewer than 64
+  -- if the others' are fewer than 64
   others-kept : length (lists_of_others lists caller) < 64 → list_of (selected lists caller numbers) owner ≡ list_of lists owner
   others-kept few =
       let longer = length-append (lists_of_others lists caller) (own caller numbers ∷ []) in

@@ -90,7 +90,7 @@ module _ {X : Type 0} (p : X → Bool) where
             subst (λ (b : Bool). NonePass (cond (not b) (x ∷ rest xs) (rest xs))) (sym other) (other, none-in_rest xs)
       ]
 
-  -- where an element passes, fewer are left
+  -- if an element passes, fewer are left
   pub fewer-left : (xs : List X) (y : X) → find p xs ≡ Some y → length (rest xs) < length xs
   fewer-left [] y found = absurd (cc found)
   fewer-left (x ∷ xs) y found =

@@ -22,7 +22,7 @@ one-more lists list =
     let inside : length lists - 63 ≤ length lists = omega arith in
     sym (ap (λ (n : ℕ). drop n (lists ++ list ∷ [])) same ∙ drop-append-le (length lists - 63) lists (list ∷ []) inside)
 
--- the room that is made, where the caller has a list at this place
+-- the room that is made, if the caller has a list at this place
 pub room-at : (lists : List CallerList) (caller : CallSign) (place : ℕ) → IsLists lists → position (is_of caller) lists ≡ Some place
     → remove lists place ≡ last_of 63 (lists_of_others lists caller)
 room-at lists caller place are at =
@@ -30,7 +30,7 @@ room-at lists caller place are at =
     let few : length (remove lists place) ≤ 63 = omega (arith, shorter, are.few) in
     sym (ap (last_of 63) (others-at lists caller place are at) ∙ last_of-all 63 (remove lists place) few)
 
--- and where it has none
+-- and if it has none
 module _ (lists : List CallerList) (caller : CallSign) (none : position (is_of caller) lists ≡ None) where
   others-all : lists_of_others lists caller ≡ lists
   others-all = others-none lists caller (find-nowhere (is_of caller) lists none)

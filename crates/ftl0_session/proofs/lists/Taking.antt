@@ -35,12 +35,12 @@ module _ (caller : CallSign) (count : ℕ) where
       ]
 
   module _ (lists : List CallerList) where
-    -- where the caller has no list
+    -- if the caller has no list
     pub taken-nowhere : position (is_of caller) lists ≡ None → lists ≡ after_taking lists caller count
     taken-nowhere none =
         sym (map-none (is_of caller) short lists (none-from_find (is_of caller) lists (find-nowhere (is_of caller) lists none)))
 
-    -- where it has one, at this place
+    -- if it has one, at this place
     pub taken-at : (place : ℕ) (x now : CallerList) → IsLists lists → position (is_of caller) lists ≡ Some place
         → x ≡ get_or lists place x → now ≡ short x → set lists place now ≡ after_taking lists caller count
     taken-at place x now are at read made =

@@ -1,11 +1,11 @@
--- What was acknowledged stands.
+-- What was acknowledged stays.
 use Rattle.std.proofs.Common.{◌≡◌, ℕ, ◌+◌, ◌-◌, ◌≤◌, List, [], ◌∷◌, ◌++◌, length, refl, ◌∙◌, ap, subst, arith, length-append, None, Some}
 use Rattle.ftl0_session.specs.Uploads.Laws.{AcknowledgedStandsLaw, kept}
 use Rattle.ftl0_session.specs.Uploads.Session.{Row}
 use Rattle.ftl0_session.proofs.Names.{AreAllowed, Command, after_all, last_grow, seal, Store, entry_of, after_first, AreAllowed-split, after_first-then, stays, whole_row}
 use Rattle.ftl0_session.proofs.uploads.Uploads.{end-row, sealed_entry, upto-is}
 
--- at least so many commands are all of the first ones and some of the others
+-- at least this many commands are all of the first ones and some of the others
 past : (a b c : List Command) (start : Store) (count : ℕ) → length a + length b ≤ count
     → after_first count start (a ++ (b ++ c)) ≡ after_first (count - (length a + length b)) (after_all (after_all start a) b) c
 past a b c start count least =

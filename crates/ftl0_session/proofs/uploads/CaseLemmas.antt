@@ -1,4 +1,4 @@
--- What holds of each row of the table of uploading holds of the row of a packet.
+-- What is true of each row of the table of uploading is true of the row of a packet.
 use Rattle.std.proofs.Common.{◌≡◌, ℕ, List, [], ◌∷◌, ◌++◌, length, refl, sym, ◌∙◌, subst, true≢false, Bool, true, false, not, Option, None, Some}
 use Rattle.std.specs.Prelude.{if◌then◌else◌, ◌==◌}
 use Rattle.pfh_items.specs.declared.fault.FileFault.{FileFault}
@@ -19,7 +19,7 @@ fault-other (Some fault) code is = subst (λ (c : ℕ). (c == 3) ≡ false) (sam
     by HeaderSum = refl
     by BodySum = refl
 
--- P of each row that the table has over the store at the moment, where a read fails or none does: of a file that is
+-- P of each row that the table has over the store at the moment, whether a read fails or none does: of a file that is
 -- begun, that goes on, that is refused or whose packet has error 1, of octets that are taken or too many, of a whole
 -- file without fault, with one or that can't be read, of too few octets, and of DATA and DATA_END while the end of a
 -- refused file is waited for.
@@ -69,7 +69,7 @@ module _ {caller : CallSign} {moment : ℕ} {store : Store} {fails : Bool} {P : 
       by true = each.refused state item 1 refl
       by false = tt
 
-  -- where a file that is whole isn't read, or can be
+  -- if a file that is whole isn't read, or can be
   plain : (state : State) (item : Item) → (fails ≡ true → row_unread store state item ≡ None) → IfSome (session_row caller moment store state item) (P state item)
   unfolding session_row
   plain command (Ok (upload_cmd number len)) fine =

@@ -6,7 +6,7 @@ use Rattle.ftl0_session.proofs.Names.{⊤, Result, Ok, Err, AllByRecursion, Ghos
 use Rattle.ftl0_session.proofs.CauseLemmas.{says-quiet}
 use Rattle.ftl0_session.proofs.FaultLemmas.{Silent, upload_codes, uploads-silent}
 
--- a count that stands as it stood
+-- a count that is as it was
 counts-none : (before now : ℕ) → now ≡ before → CountsSome before now 0
 counts-none before now same = record { no_less = omega (arith, same); rose = inl (omega (arith, same)); same = λ none. same }
 
@@ -113,7 +113,7 @@ module _ {D : Type 0} (g : Ghosts D) (packet : CallerPacket) (state : State) (be
       says = tt;
     }
 
-    -- the same where nothing is read
+    -- the same if nothing is read
     pub takes-cut : {fault : DiskFault} (P : Type 0) (commands : List Command) → P → Does g P before now disk disk_now commands
         → ((files : Store) → IsStoreLike (store_in before) files → HasRow (row_of packet files state false) commands)
         → next ≡ command → replies ≡ texts (fault_reply state ∷ []) → TakesPacket g packet (working_at (at before disk) state) (working_at (at now disk_now) next) replies (Err fault)

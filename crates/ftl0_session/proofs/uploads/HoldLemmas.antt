@@ -65,7 +65,7 @@ module _ (caller : CallSign) (before : StoreState) (up : Upload) (holds : Holds 
         → session_row caller moment files (receiving_of before up) (Ok data_end) ≡ Some (whole_row moment up.number (waiting before up) fault)
     whole fault enough checked = row-whole caller moment files up.number entry held found partly (waiting before up) fault (all-came enough) checked
 
-    -- where a read fails
+    -- if a read fails
     pub unread : (IsShort before up → ⊥) → row_by_read caller moment files (receiving_of before up) (Ok data_end) true ≡ Some (unread_row up.number (waiting before up))
     unread enough = row-unread caller moment files up.number entry held found partly (waiting before up) (all-came enough)
 
@@ -104,7 +104,7 @@ whole-sealing files before up moment (Some code) checked = ap (λ (f : Option �
 pub sealing-some : (files : Store) (before : StoreState) (up : Upload) (moment : ℕ) → sealing files before up moment ≡ [] → ⊥
 sealing-some files before up moment none = some-at_end (last_grow up.number (waiting before up)) (ending up.number moment (fault_code (octets_come files before up))) none
 
--- DATA_END after all octets: its row isn't the same where a read fails, so the file is looked at
+-- DATA_END after all octets: its row isn't the same if a read fails, so the file is looked at
 pub end-looks : (caller : CallSign) (before : StoreState) (up : Upload) (holds : Holds before up) (moment : ℕ) (row : Row) → (IsShort before up → ⊥)
     → LooksAtNone (packet_of caller moment (Ok data_end)) (record { store = before; state = receiving_of before up }) row → ⊥
 end-looks caller before up holds moment row enough looks =

@@ -13,7 +13,7 @@ changes-same n before now same number e found = (e, ap (λ (s : Store). entry_of
 
 module _ (before now : StoreState) (n : ℕ) (caller : CallSign) (changes : ChangesEntry (store_in before) (store_in now) n)
     (rests : KeepsRests before.files now.files n) where
-  -- where the entry of this number is the caller's
+  -- if the entry of this number is the caller's
   pub others-kept : ((e : Entry) → entry_of (store_in before) n ≡ Some e → e.caller ≡ caller) → KeepsOthers before now n → KeepsOtherCallers before now caller
   others-kept own uploads = record {
     uploads = λ up ne holds. uploads up (λ same. ne (own (entry_for up holds.begun (partial holds.held)) (subst (λ (k : ℕ). entry_of (store_in before) k ≡ Some (entry_for up holds.begun (partial holds.held))) same holds.entry))) holds;
@@ -34,7 +34,7 @@ module _ (before now : StoreState) (n : ℕ) (caller : CallSign) (changes : Chan
         | inr w ↦ rests number w.1 ∙ only number was.0 was.1 (was.2 ∙ theirs) other
       ]
 
-  -- and none at all where that of this number is given up
+  -- and none at all if that of this number is given up
   pub only-none : NoOtherOut before caller (Some n) → rest_in now n ≡ None → NoOtherOut now caller None
   only-none only gone number e found theirs other =
       let was = changes number e found in
@@ -43,6 +43,6 @@ module _ (before now : StoreState) (n : ℕ) (caller : CallSign) (changes : Chan
         | inr w ↦ rests number w.1 ∙ only number was.0 was.1 (was.2 ∙ theirs) (λ same. w.1 (let back : n ≡ number = cc in sym back))
       ]
 
--- what the caller's other entries are, where no upload of the caller's is out
+-- what the caller's other entries are, if no upload of the caller's is out
 pub only-wider : (store : StoreState) (caller : CallSign) (n : ℕ) → NoOtherOut store caller None → NoOtherOut store caller (Some n)
 only-wider store caller n only number e found theirs other = only number e found theirs (λ same. absurd (never_some number same))

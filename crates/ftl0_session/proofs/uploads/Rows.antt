@@ -41,9 +41,9 @@ pub row-none : (caller : CallSign) (moment : ℕ) (store : Store) (state : State
     → session_row caller moment store state item ≡ None
 row-none caller moment store state item kind = none-of (session_row caller moment store state item) (rows caller moment store state item ∙ kind)
 
--- ---- rows where a read of the disk fails or none does
+-- ---- rows, whether a read of the disk fails or none does
 
--- a file is read at no packet but DATA_END, which is of uploading
+-- a file is read at no packet except DATA_END, which is of uploading
 unread-none : (store : Store) (state : State) (item : Item) → is_upload_kind (kind_of_item item) ≡ false → row_unread store state item ≡ None
 unread-none store (receiving n rest) (Ok data_end) kind = absurd (true≢false kind)
 unread-none store state item kind = refl
@@ -66,7 +66,7 @@ by_read-some caller moment store state item fails kind =
     let there = row-some caller moment store state item kind in
     or-some (if fails then row_unread store state item else None) (session_row caller moment store state item) there.0 there.1
 
--- where no file is read it is the row where no read fails
+-- if no file is read, it is the row for which no read fails
 pub by_read-unread : (caller : CallSign) (moment : ℕ) (store : Store) (state : State) (item : Item) (fails : Bool) → row_unread store state item ≡ None
     → row_by_read caller moment store state item fails ≡ session_row caller moment store state item
 by_read-unread caller moment store state item true none = ap (λ (o : Option Row). option_or o (session_row caller moment store state item)) none
@@ -108,7 +108,7 @@ error-command caller moment store item (asked.Part octets) other is = rw is refl
 error-command caller moment store item asked.End other is = rw is refl
 error-command caller moment store item asked.Malformed other is = row-malformed caller moment store command item is.0 is.1
 
--- in a state where an UPLOAD_CMD has error 1, of a packet that is neither DATA nor DATA_END
+-- in a state in which an UPLOAD_CMD has error 1, of a packet that is neither DATA nor DATA_END
 error-no_data : (caller : CallSign) (moment : ℕ) (store : Store) (state : State) (item : Item) (a : Asked)
     → ((number len : ℕ) → session_row caller moment store state (Ok (upload_cmd number len)) ≡ Some (refused_row state 1))
     → ((octets : Bor (List ℕ)) → a ≡ asked.Part octets → ⊥) → (a ≡ asked.End → ⊥) → IsAsked item a → session_row caller moment store state item ≡ Some (refused_row state 1)

@@ -44,7 +44,7 @@ module _ (store : Store) (len : ℕ) where
   left : store.next < last_next → nat_lt store.next last_next ≡ true
   left h = grind (arith, nat_tests)
 
-  -- a file may be begun where no cause bars it
+  -- a file may be begun if no cause bars it
   pub may-can : IsStore store → MayBegin store len → can_begin store len ≡ true
   may-can is may =
       let blocks : blocks_of store ≤ store.blocks = is.blocks in
@@ -52,7 +52,7 @@ module _ (store : Store) (len : ℕ) where
       let test : nat_le (blocks_of store + blocks_for len) store.blocks ≡ true = grind (arith, nat_tests) in
       four _ _ _ _ (short may.short) (few may.few) (left may.left) test
 
-  -- and not where one does
+  -- and not if one does
   pub bars-cannot : (cause : BeginBar) → Bars cause store len → can_begin store len ≡ false
   bars-cannot bar.TooLong h =
       let past : longest_file < len = h in
@@ -185,11 +185,11 @@ module _ (caller : CallSign) (moment : ℕ) (store : Store) (number : ℕ) (e : 
   all-here : (rest : List ℕ) → length held + length rest ≡ e.length → is_all (entry_of store number) rest ≡ true
   all-here rest all = passes-at (λ x. length (octets_of x.holding) + length rest == x.length) true (eq-eqb _ _ (count-here rest ∙ all))
 
-  -- Receiving, DATA_END after all octets, where a read fails
+  -- Receiving, DATA_END after all octets, if a read fails
   pub row-unread : (rest : List ℕ) → length held + length rest ≡ e.length → row_by_read caller moment store (receiving number rest) (Ok data_end) true ≡ Some (unread_row number rest)
   row-unread rest all = rw (all-here rest all) refl
 
-  -- and where none does
+  -- and if none does
   pub row-whole : (rest : List ℕ) (fault : Option ℕ) → length held + length rest ≡ e.length → fault_code (octets_at (entry_of store number) ++ rest) ≡ fault
       → session_row caller moment store (receiving number rest) (Ok data_end) ≡ Some (whole_row moment number rest fault)
   unfolding session_row

@@ -28,9 +28,9 @@ pub record Filled (D S : Type 0) : Type 0 where
 abbrev pub filled : {D S : Type 0} → D → S → List ℕ → Filled D S
 filled disk state out = record { disk = disk; state = state; out = out }
 
--- The disk is as reads leave it, of which one failed or none. Where it is known what the store's files hold, a packet
--- is put exactly where one is due, and what was put is what is due for that, code 3 where a read failed. Whatever the
--- disk tells, code 3 is put exactly where a read failed.
+-- The disk is as reads leave it, of which one failed or none. If it is known what the store's files hold, a packet is
+-- put exactly when one is due, and what was put is what is due for that, code 3 if a read failed. Whatever is observed
+-- of the disk, code 3 is put exactly when a read failed.
 pub record PutsDue {D : Type 0} (g : Ghosts D) (store : Store) (before now : Filled D DownloadState) (put : Bool) :
     Type 0 where
   pub fails : Bool

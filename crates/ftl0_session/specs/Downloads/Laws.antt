@@ -24,8 +24,8 @@ ListsStayLaw =
     (before now : Store) (lists : List CallerList) → KeepsComplete before now → AreComplete before lists
     → AreComplete now lists
 
--- These packets are sent from the state on, one after another, where no read fails, up to this state, in which
--- nothing is due.
+-- These packets are sent from the state on, one after another, if no read fails, up to this state, in which nothing is
+-- due.
 abbrev pub Sends : Store → DownloadState → List PacketValue → DownloadState → Type 0
 Sends store state [] now = (now ≡ state) × (next_due store state false ≡ None)
 Sends store state (packet ∷ packets) now =
@@ -58,7 +58,7 @@ DownloadedLaw =
     (caller : CallSign) (store : Store) (lists : List CallerList) (number offset : ℕ) (file : List ℕ) → number ≢ 0
     → file_of store number ≡ Some file → offset ≤ length file → IsSent caller store lists number offset file
 
--- Where short forms are listed, exactly these are sent, one after another.
+-- When short forms are listed, exactly these are sent, one after another.
 abbrev pub ShortListedLaw : Type 0
 ShortListedLaw =
     (store : Store) (numbers : List ℕ)
@@ -70,7 +70,7 @@ pub record BeginWithHeaders (store : Store) (numbers : List ℕ) : Type 0 where
   pub complete : AreFiles store numbers
   pub headers : All (λ number. IsHeaderOf (octets_in store number) (header_octets (octets_in store number))) numbers
 
--- Where the headers of files are listed, exactly these are sent, one after another.
+-- When the headers of files are listed, exactly these are sent, one after another.
 abbrev pub LongListedLaw : Type 0
 LongListedLaw =
     (store : Store) (numbers : List ℕ) → BeginWithHeaders store numbers

@@ -1,4 +1,4 @@
--- What a session sends of itself, one packet after another (FTL0 1990, downloading): DATA of what is due, then
+-- What a session sends by itself, one packet after another (FTL0 1990, downloading): DATA of what is due, then
 -- DATA_END.
 use Rattle.std.specs.Prelude.{ℕ, suc, ◌+◌, ◌-◌, ◌==◌, min, List, [], ◌∷◌, length, take, drop, flat_map}
 use Rattle.std.specs.Prelude.{Bool, true, false, ◌&&◌, if◌then◌else◌, Option, None, Some}
@@ -24,12 +24,12 @@ abbrev pub due_octets : Store → Due → List ℕ
 due_octets store (stored number place last) = take (last - place) (drop place (octets_in store number))
 due_octets store (kept octets) = octets
 
--- what is due of it once its first octets, so many, were sent
+-- what is due of it once its first octets, this many, were sent
 abbrev pub moved : ℕ → Due → Due
 moved count (stored number place last) = stored number (place + count) last
 moved count (kept octets) = kept (drop count octets)
 
--- what is due of each once so many octets were sent, of the first to the last
+-- what is due of each once this many octets were sent, of the first to the last
 abbrev pub after_octets : ℕ → List Due → List Due
 after_octets count [] = []
 after_octets count (due ∷ later) = moved (min count (due_len due)) due ∷ after_octets (count - due_len due) later
@@ -45,7 +45,7 @@ octets_due store (sending number place last) = due_octets store (stored number p
 octets_due store waiting = []
 octets_due store (listing dues) = joined store dues
 
--- the state once so many of them were sent
+-- the state once this many of them were sent
 abbrev pub state_after : ℕ → DownloadState → DownloadState
 state_after count ready = ready
 state_after count (sending number place last) = sending number (place + min count (last - place)) last
@@ -59,14 +59,14 @@ state_at_end (sending number place last) = waiting
 state_at_end waiting = waiting
 state_at_end (listing dues) = ready
 
--- whether anything is due: DATA, or DATA_END where no octets are left
+-- whether anything is due: DATA, or DATA_END if no octets are left
 abbrev pub is_due : DownloadState → Bool
 is_due ready = false
 is_due (sending number place last) = true
 is_due waiting = false
 is_due (listing dues) = true
 
--- how many octets are due, and one for DATA_END; none where nothing is due
+-- how many octets are due, and one for DATA_END; none if nothing is due
 abbrev pub octets_left : Store → DownloadState → ℕ
 octets_left store state = if is_due state then suc (length (octets_due store state)) else 0
 
@@ -86,8 +86,8 @@ pub record DuePacket : Type 0 where
   pub packet : PacketValue
   pub state : DownloadState
 
--- While octets are left, DATA of the next 254, the last one shorter; where a read of them fails, error 3 in its
--- place, and the session is ready. None are left: DATA_END.
+-- While octets are left, DATA of the next 254, the last one shorter; if a read of them fails, error 3 in its place, and
+-- the session is ready. None are left: DATA_END.
 abbrev pub due_packet : Store → DownloadState → Bool → DuePacket
 due_packet store state fails =
     if length (octets_due store state) == 0 then record { packet = data_end; state = state_at_end state }
@@ -95,6 +95,6 @@ due_packet store state fails =
     then record { packet = dl_error_resp (octet_of error.ServerFsys); state = ready }
     else record { packet = data_part (take most_data (octets_due store state)); state = state_after most_data state }
 
--- What is due next in a state, where a read fails or none does; nothing where the session is ready or waits.
+-- What is due next in a state, whether a read fails or none does; nothing if the session is ready or waits.
 abbrev pub next_due : Store → DownloadState → Bool → Option DuePacket
 next_due store state fails = if is_due state then Some (due_packet store state fails) else None

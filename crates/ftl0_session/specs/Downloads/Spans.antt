@@ -1,4 +1,4 @@
--- What the code's spans stand for.
+-- What the code's spans represent.
 use Rattle.ftl0_session.specs.declared.downloads.span.Span.{Span}
 use Rattle.ftl0_session.specs.Downloads.Table.{Due, stored}
 

@@ -27,8 +27,8 @@ pub data Due : Type 0 where
   stored : ℕ → ℕ → ℕ → Due
   kept : List ℕ → Due
 
--- A session is ready for a command; or sends the file of this number from one place up to another; or waits for the
--- word that the file came; or sends headers, of which these are still due.
+-- A session is ready for a command; or sends the file of this number from one place up to another; or waits for
+-- DL_ACK_CMD or DL_NAK_CMD; or sends headers, of which these are still due.
 pub data DownloadState : Type 0 where
   ready : DownloadState
   sending : ℕ → ℕ → ℕ → DownloadState
@@ -54,7 +54,7 @@ file_of store number = option_and_then (λ entry. complete_octets entry.holding)
 abbrev pub has_file : Store → ℕ → Bool
 has_file store number = is_some (file_of store number)
 
--- the octets of the entry of this number; none where there is no entry
+-- the octets of the entry of this number; none if there is no entry
 abbrev pub octets_in : Store → ℕ → List ℕ
 octets_in store number = octets_at (entry_of store number)
 
@@ -62,7 +62,7 @@ octets_in store number = octets_at (entry_of store number)
 abbrev pub refused_row : List CallerList → ℕ → DownloadRow
 refused_row lists code = record { state = ready; lists = lists; replies = dl_error_resp code ∷ [] }
 
--- the lists after the caller's command with this number, which took so many numbers: only number 0 takes any
+-- the lists after the caller's command with this number, which took this many numbers: only number 0 takes any
 abbrev pub lists_after : List CallerList → CallSign → ℕ → ℕ → List CallerList
 lists_after lists caller number count = if number == 0 then after_taking lists caller count else lists
 
@@ -82,7 +82,7 @@ file_row caller lists asked offset number (Some file) =
       replies = [];
     }
 
--- the row of the file that is asked for; error 11 where nothing is left
+-- the row of the file that is asked for; error 11 if nothing is left
 abbrev pub asked_row : CallSign → Store → List CallerList → ℕ → ℕ → Option ℕ → DownloadRow
 asked_row caller store lists asked offset None = refused_row lists (octet_of error.SelectionEmpty)
 asked_row caller store lists asked offset (Some number) =
@@ -134,7 +134,7 @@ abbrev pub directory_row : CallSign → Store → List CallerList → ℕ → (S
 directory_row caller store lists number due fails =
     files_row caller store lists number due fails (listed_files lists caller number)
 
--- whether the file is complete and the selection holds of its header's items
+-- whether the file is complete and its header's items match the selection
 abbrev pub is_chosen : Tree → Entry → Bool
 is_chosen tree entry = is_complete entry.holding && holds tree (header_items (octets_of entry.holding))
 
@@ -154,18 +154,18 @@ tree_row caller store lists fails (Ok tree) =
     if fails then refused_row lists (octet_of error.ServerFsys)
     else chosen_row caller lists (chosen tree store.entries)
 
--- Ready, SELECT_CMD: the caller's list becomes the complete files that the selection holds of. A packet has at most
--- 2,047 octets of tokens; more are a fault too.
+-- Ready, SELECT_CMD: the caller's list becomes the complete files that match the selection. A packet has at most 2,047
+-- octets of tokens; more are a fault too.
 abbrev pub select_row : CallSign → Store → List CallerList → List ℕ → Bool → DownloadRow
 select_row caller store lists tokens fails =
     if nat_lt 2047 (length tokens) then refused_row lists (octet_of error.PoorlyFormedSel)
     else tree_row caller store lists fails (tree_in tokens)
 
--- a download comes to its end with this reply
+-- a download ends with this reply
 abbrev pub ended_row : List CallerList → PacketValue → DownloadRow
 ended_row lists reply = record { state = ready; lists = lists; replies = reply ∷ [] }
 
--- Ready: what a caller's packet gives, where a read of a header fails or none does; None where it has no row.
+-- Ready: what a caller's packet gives, whether a read of a header fails or none does; None if it has no row.
 unfoldable pub command_row : CallSign → Store → List CallerList → PacketValue → Bool → Option DownloadRow
 command_row caller store lists (download_cmd number offset lock) fails =
     Some (download_cmd_row caller store lists number offset lock)
@@ -187,8 +187,8 @@ reply_waiting dl_ack_cmd = Some dl_completed_resp
 reply_waiting dl_nak_cmd = Some dl_aborted_resp
 reply_waiting packet = None
 
--- The table, row by row: what a caller's packet gives in a state, over a store and lists, where a read of a header
--- fails or none does. None where the packet has no row in the state.
+-- The table, row by row: what a caller's packet gives in a state, over a store and lists, whether a read of a header
+-- fails or none does. None if the packet has no row in the state.
 unfoldable pub download_row :
     CallSign → Store → List CallerList → DownloadState → PacketValue → Bool → Option DownloadRow
 download_row caller store lists ready packet fails = command_row caller store lists packet fails

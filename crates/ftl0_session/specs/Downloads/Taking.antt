@@ -34,9 +34,9 @@ made state lists replies = record { state = state; lists = lists; replies = repl
 abbrev pub made_by : DownloadRow → Made
 made_by row = made row.state row.lists (flat_map packet_text row.replies)
 
--- The disk is as reads leave it, of which one failed or none. Where it is known what the store's files hold, what was
--- made is the row over them for that, which tells of a read that failed by code 3. Whatever the disk tells, where the
--- row over what memory tells is the same whether a read fails or none does, none failed, and that row was made; and a
+-- The disk is as reads leave it, of which one failed or none. If it is known what the store's files hold, what was made
+-- is the row over them for that, which reports a read that failed by code 3. Whatever is observed of the disk, if the
+-- row over what memory shows is the same whether a read fails or none does, none failed, and that row was made; and a
 -- code 3 in the replies has its cause.
 pub record MakesRow {D : Type 0} (g : Ghosts D) (store : StoreState) (disk disk_now : D)
     (row : Store → Bool → DownloadRow) (now : Made) : Type 0 where
@@ -56,11 +56,11 @@ abbrev pub IsRow : {D : Type 0} → Option DownloadRow → Bool → D → D → 
 IsRow None taken disk disk_now before now = (taken ≡ false) × (disk_now ≡ disk) × (now ≡ before)
 IsRow (Some row) taken disk disk_now before now = (taken ≡ true) × (now ≡ made_by row)
 
--- The disk is as reads leave it, of which one failed or none. A packet is taken exactly where it has a row of
--- downloading, whatever the files hold; one that isn't taken changes nothing. Where it is known what the store's files
--- hold, what was made is the row over them for the reads that failed or didn't, and tells of one that failed by code 3.
--- Whatever the disk tells, where the row over what memory tells is the same whether a read fails or none does, none
--- failed, and that row was made; and a code 3 in the replies has its cause.
+-- The disk is as reads leave it, of which one failed or none. A packet is taken exactly when it has a row of
+-- downloading, whatever the files hold; one that isn't taken changes nothing. If it is known what the store's files
+-- hold, what was made is the row over them for the reads that failed or didn't, and reports one that failed by code 3.
+-- Whatever is observed of the disk, if the row over what memory shows is the same whether a read fails or none does,
+-- none failed, and that row was made; and a code 3 in the replies has its cause.
 pub record TakesByRow {D : Type 0} (g : Ghosts D) (store : StoreState) (row : Store → Bool → Option DownloadRow)
     (disk disk_now : D) (before now : Made) (taken : Bool) : Type 0 where
   pub fails : Bool

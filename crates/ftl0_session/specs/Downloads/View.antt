@@ -1,4 +1,4 @@
--- The state of the table that the code's downloads stand for.
+-- The state of the table that the code's downloads represent.
 use Rattle.std.specs.Prelude.{ℕ, ◌≤◌, List, [], ◌∷◌, length, map, drop}
 use Rattle.ftl0_session.specs.declared.downloads.downloads.Downloads.TheInside.{Inside}
 use Rattle.ftl0_session.specs.declared.downloads.downloads.Phase.{Phase}
@@ -7,7 +7,7 @@ use Rattle.ftl0_session.specs.declared.downloads.span.Span.{Span}
 use Rattle.ftl0_session.specs.Downloads.Spans.{due_of}
 use Rattle.ftl0_session.specs.Downloads.Table.{DownloadState, kept, listing, ready, sending, waiting}
 
--- in this phase, with these short forms, of which so many octets were sent, and these headers
+-- in this phase, with these short forms, of which this many octets were sent, and these headers
 abbrev pub state_of : Phase → List ℕ → ℕ → List Span → DownloadState
 state_of phase.Ready forms sent headers = ready
 state_of (phase.Sending span) forms sent headers = sending span.number span.place span.last

@@ -8,7 +8,7 @@ pub record CallerList : Type 0 where
   pub caller : CallSign
   pub numbers : List ℕ
 
--- so many of these numbers are taken
+-- this many of these numbers are taken
 pub record AreTaken (taken : ℕ) (numbers : List ℕ) : Type 0 where
   pub within : taken ≤ length numbers
   pub few : length numbers ≤ 1024
@@ -29,7 +29,7 @@ abbrev pub numbers_or_none : Option CallerList → List ℕ
 numbers_or_none None = []
 numbers_or_none (Some list) = list.numbers
 
--- the numbers that are left in the caller's list; none where it has no list
+-- the numbers that are left in the caller's list; none if it has no list
 abbrev pub left_of : List CallerList → CallSign → List ℕ
 left_of lists caller = numbers_or_none (list_of lists caller)
 
@@ -41,7 +41,7 @@ has_left lists caller = nat_lt 0 (length (left_of lists caller))
 abbrev pub lists_of_others : List CallerList → CallSign → List CallerList
 lists_of_others lists caller = filter (λ list. not (is_of caller list)) lists
 
--- the last lists, at most so many
+-- the last lists, at most this many
 abbrev pub last_of : ℕ → List CallerList → List CallerList
 last_of count lists = drop (length lists - count) lists
 
@@ -51,13 +51,13 @@ abbrev pub selected : List CallerList → CallSign → List ℕ → List CallerL
 selected lists caller numbers =
     last_of 64 (lists_of_others lists caller ++ record { caller = caller; numbers = numbers } ∷ [])
 
--- a list without its first numbers, so many, where it is the caller's
+-- a list without its first numbers, this many, if it is the caller's
 abbrev pub shortened : CallSign → ℕ → CallerList → CallerList
 shortened caller count list =
     if is_of caller list then record list { numbers = drop count list.numbers } else list
 
--- DOWNLOAD_CMD, DIR_SHORT_CMD and DIR_LONG_CMD with number 0: so many numbers are taken from the front of the caller's
--- list. It stays where it is, used up or not.
+-- DOWNLOAD_CMD, DIR_SHORT_CMD and DIR_LONG_CMD with number 0: this many numbers are taken from the beginning of the
+-- caller's list. It stays where it is, used up or not.
 abbrev pub after_taking : List CallerList → CallSign → ℕ → List CallerList
 after_taking lists caller count = map (shortened caller count) lists
 

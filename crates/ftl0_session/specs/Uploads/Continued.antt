@@ -17,7 +17,7 @@ pub record IsCompleted (caller : CallSign) (store : Store) (entry : Entry) (held
   pub replies : replies_to caller store command events ≡ ul_go_resp number (length held) ∷ ul_ack_resp ∷ []
   pub entry_now : entry_of (store_after caller store command events) number ≡ Some (kept entry file moment)
 
--- The caller's own file that is under way, and that is without fault once the octets behind those that are held have
+-- The caller's own file that is under way, and that is without fault once the octets after those that are held have
 -- come, goes on and is acknowledged, in whatever parts they come. The store keeps exactly the octets held and those
 -- that came, stamped.
 abbrev pub ContinuedLaw : Type 0

@@ -33,7 +33,7 @@ write_fails failures part = list_any (λ failure. (failure.part == part) && is_w
 abbrev pub NoReadFails : List Failure → Type 0
 NoReadFails failures = (part : ℕ) → read_fails failures part ≡ false
 
--- nothing failed but a write or a sync of this part
+-- nothing failed except a write or a sync of this part
 abbrev pub failed_write : ℕ → List Failure
 failed_write part = record { part = part; fault = write_fault } ∷ []
 

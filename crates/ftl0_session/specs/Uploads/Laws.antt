@@ -1,5 +1,5 @@
 -- Laws of the session's table: which packets have a row, what is granted, what goes on, what is acknowledged, and that
--- this stands.
+-- this stays.
 use Rattle.std.specs.Prelude.{◌≡◌, ◌≢◌, ℕ, ◌+◌, ◌≤◌, List, [], ◌∷◌, ◌++◌, length, true}
 use Rattle.std.specs.Prelude.{Option, None, Some, IfSome, is_some, Ok}
 use Rattle.std.specs.List.{AllByRecursion}
@@ -38,7 +38,7 @@ abbrev pub IsNoFault : PacketValue → Type 0
 IsNoFault reply =
     (reply ≢ ul_error_resp (octet_of error.ServerFsys)) × (reply ≢ ul_nak_resp (octet_of error.ServerFsys))
 
--- No row of the table replies code 3 where no read of the disk fails.
+-- No row of the table replies code 3 if no read of the disk fails.
 abbrev pub FaultCodeLaw : Type 0
 FaultCodeLaw =
     (caller : CallSign) (moment : ℕ) (store : Store) (state : State) (item : Item)
@@ -48,7 +48,7 @@ FaultCodeLaw =
 abbrev pub IsUnderWay : Store → ℕ → Entry → List ℕ → Type 0
 IsUnderWay store number entry held = (entry_of store number ≡ Some entry) × (entry.holding ≡ partial held)
 
--- The caller's own file that is under way goes on, at the place behind the octets that are held, and no other.
+-- The caller's own file that is under way goes on, at the place after the octets that are held, and no other.
 abbrev pub ResumedLaw : Type 0
 ResumedLaw =
     (caller : CallSign) (moment : ℕ) (store : Store) (number : ℕ) (entry : Entry) (held : List ℕ) → number ≢ 0
@@ -66,7 +66,7 @@ kept entry file moment = record entry { holding = complete (stamped (stamp_of mo
 
 -- A file of which all octets came, and which has no fault, is acknowledged, and its entry is then complete with exactly
 -- these octets, stamped with its number, its caller and the moment. What is kept has no fault, the client's body, and
--- the client's items but for those that the server fills in.
+-- the client's items except for those that the server fills in.
 abbrev pub AcknowledgedLaw : Type 0
 AcknowledgedLaw =
     (caller : CallSign) (moment : ℕ) (store : Store) (number : ℕ) (entry : Entry) (held rest : List ℕ)
@@ -77,8 +77,8 @@ AcknowledgedLaw =
     × (IsCall entry.caller → IsOctets (held ++ rest)
     → KeepsClient (held ++ rest) (stamped (stamp_of moment entry) (held ++ rest)))
 
--- Where a read of the disk fails, a file of which all octets came isn't acknowledged: UL_NAK_RESP 3. It stays under
--- way, with exactly these octets held.
+-- If a read of the disk fails, a file of which all octets came isn't acknowledged: UL_NAK_RESP 3. It stays under way,
+-- with exactly these octets held.
 abbrev pub UnreadLaw : Type 0
 UnreadLaw =
     (caller : CallSign) (moment : ℕ) (store : Store) (number : ℕ) (entry : Entry) (held rest : List ℕ)
@@ -98,9 +98,9 @@ abbrev pub HasEntry : ℕ → Entry → List ℕ → Type 0
 HasEntry number entry image =
     (files : Store) × StandsFor image files × (entry_of files number ≡ Some entry)
 
--- There is a row, which comes behind these commands, has commands and replies UL_ACK_RESP. In each image that stands
--- for the store after at least these commands and the row's, whatever commands come behind them, this is the entry of
--- the number.
+-- There is a row, which comes after these commands, has commands and replies UL_ACK_RESP. In each image that stands for
+-- the store after at least these commands and the row's, whatever commands come after them, this is the entry of the
+-- number.
 pub record StandsAcknowledged (given : Option Row) (start : Store) (commands : List Command) (number : ℕ)
     (entry : Entry) : Type 0 where
   pub row : Row
@@ -113,8 +113,8 @@ pub record StandsAcknowledged (given : Option Row) (start : Store) (commands : L
       → MakesBetween least most start (commands ++ (row.commands ++ others)) image
       → HasEntry number entry image
 
--- DATA_END's row over the store that these commands come to is so, whatever they were, of this session or of others:
--- the file's entry is then complete with the octets that came, stamped.
+-- DATA_END's row over the store that these commands give is so, whatever they were, of this session or of others: the
+-- file's entry is then complete with the octets that came, stamped.
 abbrev pub AcknowledgedStandsLaw : Type 0
 AcknowledgedStandsLaw =
     (caller : CallSign) (start store : Store) (commands : List Command) (moment number : ℕ) (entry : Entry)

@@ -7,7 +7,7 @@ use Rattle.file_store.specs.Store.{Store}
 use Rattle.ftl0_session.specs.Uploads.Events.{Event}
 use Rattle.ftl0_session.specs.Uploads.Session.{Row, State, session_row}
 
--- what follows from a row, or what stands where there is none
+-- what follows from a row, or what is given if there is none
 abbrev pub on_row : {X : Type 0} → Option Row → X → (Row → X) → X
 on_row None otherwise given = otherwise
 on_row (Some row) otherwise given = given row

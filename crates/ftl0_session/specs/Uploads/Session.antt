@@ -66,7 +66,7 @@ abbrev pub resumed_row : ℕ → ℕ → Row
 resumed_row number held =
     record { state = receiving number []; commands = []; replies = ul_go_resp number held ∷ [] }
 
--- Command, UPLOAD_CMD with the number of a file. No entry of the number stands: error 4. It is of another caller, or
+-- Command, UPLOAD_CMD with the number of a file. There is no entry of the number: error 4. It is of another caller, or
 -- has another length: error 2. It is complete: error 12. Else the file goes on.
 abbrev pub continue_row : CallSign → ℕ → ℕ → Option Entry → Row
 continue_row caller number file_length None = refused_row command (octet_of error.NoSuchFileNumber)
@@ -128,8 +128,8 @@ abbrev pub error_row : State → Item → Option Row
 error_row state item =
     if is_upload_kind (kind_of_item item) then Some (refused_row state (octet_of error.IllFormedCmd)) else None
 
--- The table, row by row: what a packet gives in a state, over a store, at a moment, where no read of the disk fails.
--- None exactly where the packet isn't of uploading.
+-- The table, row by row: what a packet gives in a state, over a store, at a moment, if no read of the disk fails. None
+-- exactly when the packet isn't of uploading.
 unfoldable pub session_row : CallSign → ℕ → Store → State → Item → Option Row
 session_row caller moment store command (Ok (upload_cmd number file_length)) =
     Some (upload_row caller moment store number file_length)
@@ -149,19 +149,19 @@ unread_row number rest =
       replies = ul_nak_resp (octet_of error.ServerFsys) ∷ [];
     }
 
--- The row where a read of the disk fails, of a packet at which the file is read: DATA_END of a whole file, UL_NAK_RESP
--- 3. At no other one is anything read.
+-- The row of a packet at which the file is read, if a read of the disk fails: DATA_END of a whole file, UL_NAK_RESP 3.
+-- At no other packet is anything read.
 abbrev pub row_unread : Store → State → Item → Option Row
 row_unread store (receiving number rest) (Ok data_end) =
     if is_all (entry_of store number) rest then Some (unread_row number rest) else None
 row_unread store state item = None
 
--- The table where a read of the disk fails or none does.
+-- The table, whether a read of the disk fails or none does.
 abbrev pub row_by_read : CallSign → ℕ → Store → State → Item → Bool → Option Row
 row_by_read caller moment store state item fails =
     option_or (if fails then row_unread store state item else None) (session_row caller moment store state item)
 
--- The reply to a packet at whose row a write or a sync of the disk failed: code 3, by UL_NAK_RESP where a file is
+-- The reply to a packet at whose row a write or a sync of the disk failed: code 3, by UL_NAK_RESP if a file is
 -- received, else by UL_ERROR_RESP.
 abbrev pub fault_reply : State → PacketValue
 fault_reply command = ul_error_resp (octet_of error.ServerFsys)

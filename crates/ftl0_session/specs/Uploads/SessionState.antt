@@ -19,11 +19,11 @@ pub record SessionState : Type 0 where
 abbrev pub new_session : CallSign → SessionState
 new_session caller = record { caller = caller; phase = phase.Command }
 
--- the state of the table in which this upload's octets come: those that wait to be held are the store's to tell
+-- the state of the table in which this upload's octets come: the store says which wait to be held
 abbrev pub receiving_of : StoreState → Upload → State
 receiving_of store up = receiving up.number (waiting store up)
 
--- the state of the table that the phase stands for
+-- the state of the table that the phase represents
 abbrev pub state_of : StoreState → Phase → State
 state_of store phase.Command = command
 state_of store (phase.Receiving up) = receiving_of store up
@@ -44,13 +44,13 @@ PhaseIsHeld store caller phase.Aborting = ⊤
 abbrev pub IsHeld : StoreState → SessionState → Type 0
 IsHeld store session = PhaseIsHeld store session.caller session.phase
 
--- no upload of an entry of this caller is out, but that of this number, if there is one
+-- no upload of an entry of this caller is out, except that of this number, if there is one
 abbrev pub NoOtherOut : StoreState → CallSign → Option ℕ → Type 0
 NoOtherOut store caller own =
     (number : ℕ) (entry : Entry) → entry_of (store_in store) number ≡ Some entry → entry.caller ≡ caller
     → own ≢ Some number → rest_in store number ≡ None
 
--- no upload of an entry of the session's caller is out, but the session's own
+-- no upload of an entry of the session's caller is out, except the session's own
 abbrev pub IsOnlyOut : StoreState → SessionState → Type 0
 IsOnlyOut store session = NoOtherOut store session.caller (number_of session.phase)
 

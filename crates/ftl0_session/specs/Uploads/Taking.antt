@@ -39,7 +39,7 @@ working_at files state = at (record { store = files.it; state = state }) files.d
 abbrev pub files_at : {D : Type 0} → Ghosts D → AtDisk Working D → Store
 files_at g here = store_on g here.it.store here.disk
 
--- the packet's row over this store, where a read of the disk fails or none does: each packet of uploading has one
+-- the packet's row over this store, whether a read of the disk fails or none does: each packet of uploading has one
 abbrev pub row_of : CallerPacket → Store → State → Bool → Option Row
 row_of packet store state fails = row_by_read packet.caller packet.moment store state packet.item fails
 
@@ -56,10 +56,10 @@ abbrev pub Answers :
 Answers g before row now replies (Ok done) = Gives g before row now replies
 Answers g before row now replies (Err fault) = ⊤
 
--- What a packet with this row does to the disk. Where it is answered, the row's commands are done, among reads of which
+-- What a packet with this row does to the disk. If it is answered, the row's commands are done, among reads of which
 -- one failed or none; or a write or a sync failed in one of them, and no read. A crash since the packet came leaves the
--- store after the first so many of them, and the disk gets no longer than a store of so many blocks may be, or than it
--- was.
+-- store after the first of them, for some number of them, and the disk gets no longer than a store of this number of
+-- blocks may be, or than it was.
 abbrev pub PutsRow :
     {D : Type 0} → Ghosts D → Bool → Row → AtDisk Working D → AtDisk Working D → Result ⊤ DiskFault → Type 0
 PutsRow g fails row before now (Ok done) =
@@ -67,7 +67,7 @@ PutsRow g fails row before now (Ok done) =
 PutsRow g fails row before now (Err fault) =
     DoesAmongReads g ⊤ 0 before.it.store now.it.store before.disk now.disk row.commands
 
--- What a packet with this row gives, where a read of the disk failed, which code 3 tells, or none did.
+-- What a packet with this row gives, whether a read of the disk failed, which code 3 reports, or none did.
 pub record MakesRow {D : Type 0} (g : Ghosts D) (fails : Bool) (row : Row)
     (before now : AtDisk Working D) (replies : List ℕ) (result : Result ⊤ DiskFault) : Type 0 where
   pub told : fails ≡ true → row.replies ≡ ul_nak_resp (octet_of error.ServerFsys) ∷ []
@@ -75,27 +75,27 @@ pub record MakesRow {D : Type 0} (g : Ghosts D) (fails : Bool) (row : Row)
   pub on_disk : PutsRow g fails row before now result
   pub untouched : fails ≡ false → row.commands ≡ [] → now.disk ≡ before.disk
 
--- What a write or a sync of the disk that failed leaves, whatever the disk tells. No read failed, code 3 is replied,
--- and a command is waited for.
+-- What a write or a sync of the disk that failed leaves, whatever is observed of the disk. No read failed, code 3 is
+-- replied, and a command is waited for.
 abbrev pub IsStopped :
     {D : Type 0} → Bool → AtDisk Working D → AtDisk Working D → List ℕ → Result ⊤ DiskFault → Type 0
 IsStopped fails before now replies (Ok done) = ⊤
 IsStopped fails before now replies (Err fault) =
     (fails ≡ false) × (now.it.state ≡ command) × (replies ≡ texts (fault_reply before.it.state ∷ []))
 
--- The packet's row over what memory tells is this one, whether a read fails or none does: no octet of a file is looked
+-- The packet's row over what memory shows is this one, whether a read fails or none does: no octet of a file is looked
 -- at for it.
 abbrev pub LooksAtNone : CallerPacket → Working → Row → Type 0
 LooksAtNone packet before row =
     (fails : Bool) → row_of packet (store_in before.store) before.state fails ≡ Some row
 
--- the answer to a packet is this row of the table, whatever the disk tells
+-- the answer to a packet is this row of the table, whatever is observed of the disk
 abbrev pub AnswersAnyway : Row → Working → List ℕ → Result ⊤ DiskFault → Type 0
 AnswersAnyway row now replies (Ok done) = (now.state ≡ row.state) × (replies ≡ texts row.replies)
 AnswersAnyway row now replies (Err fault) = ⊤
 
--- What a packet with this row gives and does to the disk, whatever the disk tells. No read failed. Where it is
--- answered, memory tells the store after the row's commands.
+-- What a packet with this row gives and does to the disk, whatever is observed of the disk. No read failed. If it is
+-- answered, memory shows the store after the row's commands.
 pub record MakesAnyway {D : Type 0} (g : Ghosts D) (row : Row) (before now : AtDisk Working D)
     (replies : List ℕ) (result : Result ⊤ DiskFault) : Type 0 where
   pub answers : AnswersAnyway row now.it replies result
@@ -104,8 +104,8 @@ pub record MakesAnyway {D : Type 0} (g : Ghosts D) (row : Row) (before now : AtD
       OnOk result (store_in now.it.store ≡ after_all (store_in before.it.store) (outlined_all row.commands))
 
 -- A session takes a packet, malformed or not, and a read of the disk fails or none does. What it gives is the packet's
--- row for that, where it is known what the store's files hold; and whatever the disk tells, where no octet of a file is
--- looked at for it. A code 3 in its replies has its cause.
+-- row for that, if it is known what the store's files hold; and whatever is observed of the disk, if no octet of a file
+-- is looked at for it. A code 3 in its replies has its cause.
 pub record TakesPacket {D : Type 0} (g : Ghosts D) (packet : CallerPacket) (before now : AtDisk Working D)
     (replies : List ℕ) (result : Result ⊤ DiskFault) : Type 0 where
   pub fails : Bool
@@ -125,7 +125,7 @@ pub record TakesPacket {D : Type 0} (g : Ghosts D) (packet : CallerPacket) (befo
 abbrev pub AnswersCode : ErrorCode → List ℕ → Result ⊤ DiskFault → Type 0
 AnswersCode code replies result = (result ≡ Ok tt) × (replies ≡ texts (ul_error_resp (octet_of code) ∷ []))
 
--- The answer to a refusal to begin a file, of a store that hadn't failed before: error 13; or code 3 where the disk
+-- The answer to a refusal to begin a file, of a store that hadn't failed before: error 13; or code 3 if the disk
 -- failed.
 abbrev pub AnswersRefusal : BeginRefusal → List ℕ → Result ⊤ DiskFault → Type 0
 AnswersRefusal refusal.TooLong replies result = AnswersCode error.NoRoom replies result
@@ -154,7 +154,7 @@ GivesAlone given next replies =
     (row : Row) × (given ≡ Some row) × (row.commands ≡ []) × (next ≡ row.state) × (replies ≡ texts row.replies)
 
 -- What a packet gives that leaves the disk alone: its row over each store that is so, whatever octets its files have.
--- The files are as they were, but that an upload may have gone out or been given up.
+-- The files are as they were, except that an upload may have gone out or been given up.
 pub record AnsweredAlone (packet : CallerPacket) (state : State) (before now : StoreState) (replies : List ℕ)
     (taken : Phase × Result ⊤ DiskFault) : Type 0 where
   pub answered : taken.1 ≡ Ok tt

@@ -33,8 +33,8 @@ abbrev pub entry_begun : CallSign → Store → List ℕ → ℕ → Entry
 entry_begun caller store file begun = new_entry store.next caller (length file) begun
 
 -- The events get UL_GO_RESP with the store's next number, and UL_ACK_RESP. Then the entry of that number is complete
--- with the file, stamped; and what is kept has no fault, the client's body, and the client's items but for those that
--- the server fills in.
+-- with the file, stamped; and what is kept has no fault, the client's body, and the client's items except for those
+-- that the server fills in.
 pub record IsAcknowledged (caller : CallSign) (store : Store) (file : List ℕ) (begun moment : ℕ) (events : List Event) :
     Type 0 where
   pub replies : replies_to caller store command events ≡ ul_go_resp store.next 0 ∷ ul_ack_resp ∷ []

@@ -44,7 +44,7 @@ const MOST_TOKENS: usize = 2047;
 /// The octets of the replies to one packet.
 type Replies = ArrayVec<u8, 32>;
 
-/// What a session does beside uploading.
+/// What a session does apart from uploading.
 ///
 /// A line of the picture is a packet, then `/` and the reply, `-` for none; what has no `/` is what
 /// [`Downloads::fill`] sends. The rows are in specs/Downloads/Table.antt, what is sent in
@@ -89,7 +89,7 @@ enum Phase {
     Ready,
     /// It sends these octets of a file.
     Sending(Span),
-    /// The file was sent, and it waits for the word that the file came.
+    /// The file was sent, and it waits for DL_ACK_CMD or DL_NAK_CMD.
     Waiting,
     /// It sends short forms of headers.
     ListingShort,
@@ -144,16 +144,17 @@ impl Downloads {
         }
     }
 
-    /// Whether the session is ready for a command: it sends nothing, and waits for no word. Takes no memory.
+    /// Whether the session is ready for a command: it sends nothing, and waits for neither DL_ACK_CMD nor DL_NAK_CMD.
+    /// Takes no memory.
     pub fn is_ready(&self) -> bool
         ensures { IsTrue result ↔ (self.now ≡ ready) }
     {
         matches!(self.phase, Phase::Ready)
     }
 
-    /// Takes a packet: one row of the session's table, whose replies stand in place of what `replies` holds. It answers
-    /// false, and nothing changed, exactly where the packet has no row in the state. A directory command reads the
-    /// headers of its files, and SELECT_CMD those of all complete files; a read that fails gives code 3. Takes no
+    /// Takes a packet: one row of the session's table, whose replies are put in place of what `replies` holds. It
+    /// answers false, and nothing changed, exactly when the packet has no row in the state. A directory command reads
+    /// the headers of its files, and SELECT_CMD those of all complete files; a read that fails gives code 3. Takes no
     /// memory.
     pub fn take<D: Disk>(
         &mut self,
@@ -181,8 +182,8 @@ impl Downloads {
     }
 
     /// Puts what is due next in place of what `out` holds: DATA of the next 254 octets, the last one shorter, or
-    /// DATA_END where none is left; or code 3 in the place of a DATA whose octets can't be read, and only there. It
-    /// answers false, and nothing changed, exactly where nothing is due. It reads what it sends. Takes no memory.
+    /// DATA_END if none is left; or code 3 instead of a DATA whose octets can't be read, and only then. It answers
+    /// false, and nothing changed, exactly when nothing is due. It reads what it sends. Takes no memory.
     #[inline(always)]
     pub fn fill<D: Disk>(
         &mut self,
@@ -237,7 +238,7 @@ impl Downloads {
         };
     }
 
-    /// Reads the octets of the next DATA, and moves on behind them. After a fault what is due is open.
+    /// Reads the octets of the next DATA, and moves on past them. After a fault what is due is open.
     #[inline(never)]
     fn read_part<D: Disk>(
         &mut self,
@@ -428,7 +429,7 @@ fn reply_in_sending(packet: &Packet<'_>) -> Option<Packet<'static>>
     }
 }
 
-/// The reply to a packet while the word is waited for that a file came, if it has one.
+/// The reply to a packet while DL_ACK_CMD or DL_NAK_CMD is waited for, if it has one.
 fn reply_in_waiting(packet: &Packet<'_>) -> Option<Packet<'static>>
     ensures reply { option_map value_of result ≡ reply_waiting (value_of packet.now) }
     ensures bare { IfSome result (λ reply. information (value_of reply) ≡ []) }
@@ -515,7 +516,8 @@ fn are_files(store: &FileStore, numbers: &[u32]) -> bool
     numbers.iter().all(|number| length_of(store, FileNumber::new(*number)).is_some())
 }
 
-/// A command with this number takes so many numbers from the front of the caller's list: only one with number 0 does.
+/// A command with this number takes `count` numbers from the beginning of the caller's list: only one with number 0
+/// does.
 fn take_numbers(number: u32, count: usize, caller: Call, lists: &mut Lists)
     requires { number ≡ 0 → count ≤ length (left_of lists.old caller) }
     ensures { lists.new ≡ lists_after lists.old caller number count }
@@ -525,8 +527,7 @@ fn take_numbers(number: u32, count: usize, caller: Call, lists: &mut Lists)
     }
 }
 
-/// Ready, SELECT_CMD: the caller's list becomes the complete files that the selection holds of, or the command is
-/// refused.
+/// Ready, SELECT_CMD: the caller's list becomes the complete files that match the selection, or the command is refused.
 fn select<D: Disk>(
     disk: &mut D,
     tokens: &[u8],
@@ -553,7 +554,7 @@ fn select<D: Disk>(
     }
 }
 
-/// The selection of these tokens; none where they have a fault, or are more than a packet has.
+/// The selection of these tokens; none if they have a fault, or are more than a packet has.
 fn selection_of(tokens: &[u8]) -> Option<Selection>
     ensures some { IfSome result (λ selection. SelectsBy tokens.now (tree_of selection)) }
     ensures none { IfNone result (SelectsNone tokens.now) }
@@ -564,7 +565,7 @@ fn selection_of(tokens: &[u8]) -> Option<Selection>
     Selection::read(tokens).ok()
 }
 
-/// Refuses a command with this code, or says it in the place of a DATA: DL_ERROR_RESP in place of what `out` holds.
+/// Refuses a command with this code, or says it instead of a DATA: DL_ERROR_RESP in place of what `out` holds.
 fn refuse<const N: usize>(code: ErrorCode, out: &mut ArrayVec<u8, N>)
     requires { 3 ≤ N }
     ensures { out.new.items ≡ packet_text (dl_error_resp (octet_of code)) }

@@ -10,7 +10,7 @@ pub fn stays_law()
     ensures lists { ListsStayLaw }
 {}
 
-/// Where no read fails, the DATA that are sent have together exactly the octets that are due, and then comes DATA_END.
+/// If no read fails, the DATA that are sent have together exactly the octets that are due, and then comes DATA_END.
 pub fn sent_law()
     ensures { SentLaw }
 {}
@@ -20,7 +20,7 @@ pub fn downloaded_law()
     ensures { DownloadedLaw }
 {}
 
-/// Where files are listed, exactly their short forms are sent, or exactly their headers, one after another.
+/// When files are listed, exactly their short forms are sent, or exactly their headers, one after another.
 pub fn listed_law()
     ensures short { ShortListedLaw }
     ensures long { LongListedLaw }

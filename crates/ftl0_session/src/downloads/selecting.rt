@@ -1,4 +1,4 @@
-//! The files of which a selection holds.
+//! The files that match a selection.
 
 ghost use Rattle.std.specs.Prelude.{◌≡◌, ◌≤◌, [], length, IsErrOf, IfOk, OnOk};
 ghost use Rattle.file_store.specs.Headers.{header_items};
@@ -20,8 +20,8 @@ use selection::Selection;
 /// The numbers of a caller's list.
 pub(crate) type Numbers = ArrayVec<u32, MOST_NUMBERS>;
 
-/// The numbers of the complete files of which the selection holds, rising. It reads the header of each complete file.
-/// Takes no memory.
+/// The numbers of the complete files that match the selection, rising. It reads the header of each complete file. Takes
+/// no memory.
 pub(crate) fn chosen_files<D: Disk>(
     disk: &mut D,
     store: &mut FileStore,
@@ -48,7 +48,7 @@ pub(crate) fn chosen_files<D: Disk>(
     Ok(numbers)
 }
 
-/// Whether the selection holds of the header of a complete file.
+/// Whether the header of a complete file matches the selection.
 fn is_chosen<D: Disk>(
     disk: &mut D,
     store: &mut FileStore,

@@ -44,8 +44,8 @@ impl Default for Span {
 }
 
 impl Span {
-    /// Reads its first octets behind those that are there, up to 254 in all, and moves on behind them. The fault
-    /// comes only where a read of the disk failed. Takes no memory.
+    /// Reads its first octets after those that are there, up to 254 in all, and moves on past them. The fault comes
+    /// only if a read of the disk failed. Takes no memory.
     pub(crate) fn read<D: Disk>(
         &mut self,
         disk: &mut D,
@@ -77,7 +77,7 @@ impl Span {
 }
 
 /// Reads the first octets of these spans, one after another, up to 254 in all, and gives what is due after them. The
-/// fault comes only where a read of the disk failed. Takes no memory.
+/// fault comes only if a read of the disk failed. Takes no memory.
 pub(crate) fn read_spans<D: Disk>(
     disk: &mut D,
     store: &mut FileStore,

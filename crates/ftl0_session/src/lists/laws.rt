@@ -7,7 +7,7 @@ pub fn selection_law()
     ensures { SelectionLaw }
 {}
 
-/// When a caller selects, another one's list goes exactly where it is the first of 64 and the caller had none.
+/// When a caller selects, another one's list goes exactly when it is the first of 64 and the caller had none.
 pub fn others_law()
     ensures { OthersLaw }
 {}

@@ -46,7 +46,7 @@ impl Lists {
         !self.numbers(caller).is_empty()
     }
 
-    /// The numbers that are left in the caller's list, in order; none where it has no list. Takes no memory.
+    /// The numbers that are left in the caller's list, in order; none if it has no list. Takes no memory.
     pub fn numbers(&self, caller: Call) -> &[u32]
         ensures numbers { result.now ≡ left_of self.now caller }
         ensures most { length result.now ≤ 1024 }
@@ -58,9 +58,8 @@ impl Lists {
         }
     }
 
-    /// Takes so many numbers of the caller's list, from the first on. They are there. The list stays where it is, also
-    /// where none is left then (FTL0 1990, DOWNLOAD_CMD, DIR_SHORT_CMD and DIR_LONG_CMD with number 0). Takes no
-    /// memory.
+    /// Takes `count` numbers of the caller's list, from the first on. They are there. The list stays where it is, also
+    /// if none is left then (FTL0 1990, DOWNLOAD_CMD, DIR_SHORT_CMD and DIR_LONG_CMD with number 0). Takes no memory.
     pub fn take(&mut self, caller: Call, count: usize)
         requires { count ≤ length (left_of self.old caller) }
         ensures { self.new ≡ after_taking self.old caller count }
@@ -70,9 +69,9 @@ impl Lists {
         }
     }
 
-    /// These numbers, at most 1,024, become the caller's list: it goes last, and the caller's old one goes. Where
-    /// there are 64 lists, and none is the caller's, the first one goes (FTL0 1990, SELECT_CMD). It moves at most 63
-    /// lists, each of about 4 KiB. Takes no memory.
+    /// These numbers, at most 1,024, become the caller's list: it goes last, and the caller's old one goes. If there
+    /// are 64 lists, and none is the caller's, the first one goes (FTL0 1990, SELECT_CMD). It moves at most 63 lists,
+    /// each of about 4 KiB. Takes no memory.
     pub fn select(&mut self, caller: Call, numbers: &[u32])
         requires { length numbers.now ≤ 1024 }
         ensures { self.new ≡ selected self.old caller numbers.now }
@@ -82,7 +81,7 @@ impl Lists {
         self.lists.push(list).unwrap();
     }
 
-    /// The caller's old list goes. Where it has none, and there are 64, the first one goes.
+    /// The caller's old list goes. If it has none, and there are 64, the first one goes.
     fn make_room(&mut self, caller: Call)
         ensures lists { self.new ≡ last_of 63 (lists_of_others self.old caller) }
         ensures room { length self.new < 64 }

@@ -59,7 +59,7 @@ impl StoredList {
         &self.numbers[self.taken..]
     }
 
-    /// Takes so many numbers, from the first on. Takes no memory.
+    /// Takes `count` numbers, from the first on. Takes no memory.
     pub(crate) fn take(&mut self, count: usize)
         requires { count ≤ length self.old.numbers }
         ensures { self.new ≡ record self.old { numbers = drop count self.old.numbers } }

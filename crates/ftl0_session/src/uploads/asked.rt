@@ -11,7 +11,7 @@ use ftl0_packets::{Malformed, Packet};
 /// What a packet of uploading asks of the session.
 #[derive(Clone, Copy)]
 pub(crate) enum Asked<'a> {
-    /// UPLOAD_CMD: a file of this length, new where the number is 0.
+    /// UPLOAD_CMD: a file of this length, new if the number is 0.
     Upload { number: u32, length: u32 },
     /// DATA: these octets.
     Part(&'a [u8]),

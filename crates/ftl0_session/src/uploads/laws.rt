@@ -16,39 +16,39 @@ pub fn granted_law()
     ensures { GrantedLaw }
 {}
 
-/// The caller's own file that is under way goes on behind the octets that are held.
+/// The caller's own file that is under way goes on after the octets that are held.
 pub fn resumed_law()
     ensures { ResumedLaw }
 {}
 
-/// Where no read fails no row of the table replies code 3, which says that the server's disk failed.
+/// If no read fails, no row of the table replies code 3, which says that the server's disk failed.
 pub fn fault_code_law()
     ensures { FaultCodeLaw }
 {}
 
 /// A file of which all octets came, and which has no fault, is acknowledged, and is then complete with these octets,
-/// stamped: it has the client's body, and the client's items but for the server's.
+/// stamped: it has the client's body, and the client's items except for the server's.
 pub fn acknowledged_law()
     ensures { AcknowledgedLaw }
 {}
 
-/// Where a read fails, a file of which all octets came is refused by UL_NAK_RESP 3, and stays under way, with exactly
+/// If a read fails, a file of which all octets came is refused by UL_NAK_RESP 3, and stays under way, with exactly
 /// these octets held.
 pub fn unread_law()
     ensures { UnreadLaw }
 {}
 
-/// What was acknowledged stands: once the commands before and those of the row that replies UL_ACK_RESP are done, the
+/// What was acknowledged stays: once the commands before and those of the row that replies UL_ACK_RESP are done, the
 /// file's entry is complete, with exactly the octets that came, stamped, in every image that stands for the store after
-/// at least these commands, whatever comes behind them. The commands before may be those of this session alone, or of
+/// at least these commands, whatever comes after them. The commands before may be those of this session alone, or of
 /// many.
 pub fn acknowledged_stands_law()
     ensures { AcknowledgedStandsLaw }
 {}
 
 /// A new file without fault that may be begun is granted and acknowledged, in whatever DATA packets it comes, and the
-/// store then keeps exactly the octets that the client sent, stamped: the client's body, and the client's items but for
-/// the server's.
+/// store then keeps exactly the octets that the client sent, stamped: the client's body, and the client's items except
+/// for the server's.
 pub fn uploaded_law()
     ensures { UploadedLaw }
 {}

@@ -2,7 +2,7 @@
 
 use file_store::OpenUpload;
 
-/// What a session waits for. It must be spent where it has an upload.
+/// What a session waits for. It must be spent if it has an upload.
 ///
 /// A line of the picture is a packet, then `/` and the reply, `-` for none, and in brackets the commands of the store
 /// that are on the disk before it: a Grow for each whole 512 octets, and at DATA_END for those that wait, if any do.
@@ -29,8 +29,8 @@ use file_store::OpenUpload;
 /// ```
 ///
 /// In Command, which stays, UPLOAD_CMD 0 is refused by UL_ERROR_RESP 13, and UPLOAD_CMD with another number by
-/// UL_ERROR_RESP 4, 2 or 12. Any other of these packets is refused by UL_ERROR_RESP 1, and the phase stays. Where a
-/// write or a sync of the disk fails the session ends, by UL_ERROR_RESP 3 in Command and UL_NAK_RESP 3 in Receiving.
+/// UL_ERROR_RESP 4, 2 or 12. Any other of these packets is refused by UL_ERROR_RESP 1, and the phase stays. If a write
+/// or a sync of the disk fails, the session ends, by UL_ERROR_RESP 3 in Command and UL_NAK_RESP 3 in Receiving.
 pub enum Phase {
     /// A command.
     Command,

@@ -77,9 +77,9 @@ impl Session {
         self.caller
     }
 
-    /// Takes a packet of uploading: its row of the session's table, or code 3 where a write or a sync of the disk
-    /// fails. The row's commands are on the disk before its replies are given. A read that fails gives the row for
-    /// that. Takes no memory.
+    /// Takes a packet of uploading: its row of the session's table, or code 3 if a write or a sync of the disk fails.
+    /// The row's commands are on the disk before its replies are given. A read that fails gives the row for that. Takes
+    /// no memory.
     pub fn take<D: Disk>(
         &mut self,
         disk: &mut D,
@@ -125,7 +125,7 @@ impl Session {
         write_packet(&Packet::UlAckResp, replies);
     }
 
-    /// Ends the session, and parks its upload. No upload of an entry of its caller is out then, if none was but the
+    /// Ends the session, and parks its upload. No upload of an entry of its caller is out then, if none was except the
     /// session's own. Takes no memory.
     pub fn end(self, store: &mut FileStore)
         requires { IsHeld store.old self }
@@ -391,7 +391,7 @@ fn take_data<D: Disk>(
     }
 }
 
-/// Aborting: what is left of the refused file is passed over, up to its end.
+/// Aborting: what is left of the refused file is ignored, up to its end.
 fn take_aborting(asked: Asked<'_>, replies: &mut Replies) -> Taken
     ensures { AnswersAborting asked.entry replies.new.items result }
 {

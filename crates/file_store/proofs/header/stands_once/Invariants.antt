@@ -3,7 +3,7 @@ use Rattle.file_store.proofs.Names.{is_one_of_len, items_with}
 use Rattle.file_store.proofs.HeaderLemmas.{once_still}
 use Rattle.file_store.proofs.header.stands_once.Given as goal
 
--- what stands before the items that are left is told
+-- `once` says whether one occurs before the items that are left
 abbrev pub invariant-loop-item : goal.invariant-loop-item
 invariant-loop-item l =
     is_one_of_len l.rule.len (items_with l.rule.id l.header.items)

@@ -2,7 +2,7 @@ use Rattle.std.proofs.Common.{◌≡◌, ◌-◌, ◌≤◌, length, take, drop}
 use Rattle.file_store_blocks.proofs.Names.{octets_on, IsTold, Reads}
 use Rattle.file_store_blocks.proofs.file_blocks.read_octets.Given as goal
 
--- so many octets were read
+-- this number of octets was read
 abbrev pub invariant-loop-done : goal.invariant-loop-done
 invariant-loop-done g l = record {
   within : l.done ≤ length l.room;

@@ -2,7 +2,7 @@ use Rattle.std.proofs.Common.{◌-◌, ◌≤◌}
 use Rattle.file_store_blocks.proofs.Names.{octets_on, TookFront, Reads}
 use Rattle.file_store_blocks.proofs.piece_taker.pass_octets.Given as goal
 
--- so many octets were handed on
+-- this number of octets was handed on
 abbrev pub invariant-loop-at : goal.invariant-loop-at
 invariant-loop-at g l = record {
   within : l.at ≤ l.until;

@@ -4,7 +4,7 @@ use Rattle.ftl0_server.proofs.Names.{MayAllEnd}
 use Rattle.ftl0_server.proofs.EndLemmas.{end-here, end-later}
 use Rattle.ftl0_server.proofs.places.end_all.Goals as goal
 
--- there are eight places, and once so many of them are ended those behind them may be
+-- there are eight places, and once this many of them are ended, those after them may be
 may1 : (c : goal.After-end-arg-2-1) → (length c.args.places ≡ 8) × MayAllEnd c.end.new.store (drop 1 c.args.places)
 may1 c = let size : length c.args.places ≡ 8 = search rules in (size, end-later c.args.store.now c.end.new.store c.args.places 0 c.first-1.given.0 (omega (arith, size)) c.requires c.first-1.given.1 c.end.ensures)
 

@@ -1,4 +1,5 @@
--- A packet that isn't of uploading, or comes while something is done of downloading: its row of downloading, or error 1.
+-- A packet that isn't of uploading, or comes while something is done of downloading: its row of downloading, or error
+-- 1.
 use Rattle.std.proofs.Common.{◌≡◌, Bool, None}
 use Rattle.ftl0_session.proofs.Names.{item_of, Store, session_of, state_in, upload_row}
 use Rattle.ftl0_session.proofs.RowLemmas.{upload-other}

@@ -3,7 +3,7 @@ use Rattle.ax25_link.proofs.Names.{sum, length-take-le, sum_by-take-le, Buffer, 
 use Rattle.ax25_link.proofs.QueueLemmas.{length-cut, queue-drop, few-take, drop-AreSizes}
 use Rattle.ax25_link.proofs.send_queue.SendQueue.acknowledge.Goals as goal
 
--- so many pieces are outstanding
+-- at least this number of pieces is outstanding
 inside : (c : goal.After-from) → c.args.count ≤ length c.self.inside.sizes.items
 inside c = omega (arith, c.requires, length-cut c.self.inside.sizes.items c.self.inside.octets.items, ap (λ (q : Queue). length q.pieces) c.self.view_is)
 

@@ -6,7 +6,7 @@ use Rattle.ax25_link.proofs.send_queue.SendQueue.put_piece.Goals as goal
 length-take-most : (n : ℕ) (xs : List ℕ) → length (take n xs) ≤ n
 length-take-most n xs = omega (arith, length-take n xs)
 
--- so many pieces are outstanding
+-- a piece at this place is outstanding
 inside : (c : goal.After-from) → c.args.place < length c.self.inside.sizes.items
 inside c = omega (arith, c.requires.place, length-cut c.self.inside.sizes.items c.self.inside.octets.items, ap (λ (q : Queue). length q.pieces) c.self.view_is)
 

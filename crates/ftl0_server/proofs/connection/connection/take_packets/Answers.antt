@@ -1,4 +1,4 @@
--- A packet that is found is answered, and the loop stops where that stops.
+-- A packet that is found is answered, and the loop stops if that stops.
 use Rattle.std.proofs.Common.{arith, ◌≡◌, ◌++◌, true, false, sym}
 use Rattle.ftl0_server.proofs.Names.{common_steps, read_item, octets_in, carrying}
 use Rattle.ftl0_server.proofs.connection.FeedLemmas.{fit-all, taking-next, taking-start, taking-stops}

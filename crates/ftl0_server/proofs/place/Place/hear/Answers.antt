@@ -1,4 +1,4 @@
--- Where the session is over its upload is parked; else the connection goes on.
+-- If the session is over, its upload is parked; else the connection goes on.
 use Rattle.std.proofs.Common.{subst, sym}
 use Rattle.ftl0_server.proofs.Names.{in_parked, Store, AreComplete}
 use Rattle.ftl0_server.proofs.PlaceLemmas.{hears-on, hears-over, talks-as, works-over}

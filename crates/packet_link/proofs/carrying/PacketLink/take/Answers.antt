@@ -1,4 +1,4 @@
--- A link that is up stays so, unless what was told is that it is down.
+-- A link that is up stays so, unless what was reported is that it is down.
 use Rattle.std.proofs.Common.{◌≡◌, ap, sym, ◌∙◌}
 use Rattle.ax25_frames.specs.Values.{value_of}
 use Rattle.packet_link.proofs.Names.{Bytes, Closed, PacketLinkState}

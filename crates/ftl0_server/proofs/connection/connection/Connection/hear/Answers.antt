@@ -1,4 +1,4 @@
--- Behind the packets of a frame what is due is queued, where the connection goes on.
+-- After the packets of a frame what is due is queued, if the connection goes on.
 use Rattle.std.proofs.Common.{◌≡◌, ◌⊎◌, inl, inr, refl, sym, subst, true, false}
 use Rattle.ftl0_server.proofs.Names.{value_of, after_frame, heard_of, known_on, IsKnown, store_on, state_in, NoneDue, parts_of_frame}
 use Rattle.ftl0_server.proofs.connection.DueLemmas.{hears-going, hears-stop}

@@ -1,4 +1,4 @@
--- What is due is queued, packet by packet, up to where nothing is, or fewer octets are free.
+-- What is due is queued, packet by packet, until nothing is, or fewer octets are free.
 use Rattle.std.proofs.Common.{arith, refl, sym}
 use Rattle.ftl0_server.proofs.Names.{common_steps}
 use Rattle.ftl0_server.proofs.connection.DueLemmas.{keeps-then, queues-last, queues-then}

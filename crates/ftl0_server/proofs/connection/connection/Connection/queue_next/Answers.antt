@@ -1,4 +1,4 @@
--- What is due was queued, or it stands as it stood.
+-- What is due was queued, or it is as it was.
 use Rattle.std.proofs.Common.{◌≡◌, inl, inr, ◌<◌, ◌≤◌, ℕ, length, ap, sym, ◌∙◌, subst, arith}
 use Rattle.ftl0_server.proofs.Names.{common_steps, Kept, room_of, packet_text, puts-among-reads, StoreState, state_in, due-among, due-none, AreFree, enough_free, stations-same}
 use Rattle.ftl0_server.proofs.connection.DueLemmas.{known-or, none-due}

@@ -1,4 +1,4 @@
--- What the link told decides what becomes of the connection.
+-- What the link reported decides what becomes of the connection.
 use Rattle.std.proofs.Common.{arith, ◌⊎◌, [], ◌++◌, inl, inr, ap, sym, ◌∙◌, refl, subst}
 use Rattle.ftl0_server.specs.Connection.Inside.{connection_state}
 use Rattle.ftl0_server.proofs.Names.{common_steps, value_of, Heard, Reopened, Bytes, Closed, Kept, after_frame, packets_of, under_way, IsKnown, store_on, has_left, session_over, caller_of, working_on, command, greeted, IsConnection, LooksAtNoneAs, with_end, LookAtNone, stations-then}
