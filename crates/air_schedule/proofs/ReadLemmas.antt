@@ -10,14 +10,14 @@ LinesThen-more [] said text later rest parts h e says = (text, later, says, h �
 LinesThen-more (line ∷ lines) said text later rest parts h e says =
     (h.0, h.1, h.2, h.3, LinesThen-more lines said text later rest h.1 h.4 e says)
 
--- lines and more lines stand where those stand first, and these behind them
+-- lines and more lines are there if those are there first, and these after them
 LinesThen-front : (front more : List Line) (rest parts : List (List ℕ)) → LinesThen (front ++ more) rest parts
     → (left : List (List ℕ)) × LinesThen front left parts × LinesThen more rest left
 LinesThen-front [] more rest parts h = (parts, refl, h)
 LinesThen-front (line ∷ front) more rest parts h =
     let behind = LinesThen-front front more rest h.1 h.4 in (behind.0, (h.0, h.1, h.2, h.3, behind.1), behind.2)
 
--- no line stands in nothing
+-- there is no line in nothing
 LinesThen-nil : (lines : List Line) (rest : List (List ℕ)) → LinesThen lines rest [] → rest ≡ []
 LinesThen-nil [] rest h = sym h
 LinesThen-nil (line ∷ lines) rest h = absurd (none h.0 h.1 h.3)
@@ -25,7 +25,7 @@ LinesThen-nil (line ∷ lines) rest h = absurd (none h.0 h.1 h.3)
     none : (text : List ℕ) (later : List (List ℕ)) → [] ≡ text ∷ later → ⊥
     none text later e = cc
 
--- Of two readings of the same parts, the second goes on where the first ends ..
+-- Of two readings of the same parts, the second goes on at the end of the first ..
 record GoesOn (lines other : List Line) (rest last : List (List ℕ)) : Type 0 where
   said : Line
   more : List Line
@@ -60,7 +60,7 @@ compare (l ∷ lines) (o ∷ other) rest last parts h k =
           inr (record { more = far.more; whole = cc; stand = far.stand })
     ]
 
--- no line of a schedule stands next
+-- no line of a schedule is next
 abbrev pub NoNext : List Line → List (List ℕ) → Type 0
 NoNext lines rest = (said : Line) (more : List Line) (text : List ℕ) (later : List (List ℕ)) → rest ≡ text ∷ later → LineText said text
     → later ≢ [] → BeginSchedule (lines ++ said ∷ more) → ⊥
@@ -71,7 +71,7 @@ parts_some text h = omega (arith, length-slice_split (λ octet. octet == 10) tex
 pub begins : (schedule : Schedule) → IsSchedule schedule → BeginSchedule (lines_of schedule)
 begins schedule is = (schedule, [], is, sym (append-nil (lines_of schedule)))
 
--- the line behind those that were read is the first that can't be a schedule's
+-- the line after those that were read is the first that can't be a schedule's
 pub first_bad : (text last : List ℕ) (lines : List Line) (rest later : List (List ℕ)) → BeginSchedule lines → LinesThen lines rest (parts_of text)
     → rest ≡ last ∷ later → (rest ≡ [] ∷ [] → lines ≡ []) → NoNext lines rest → FirstBadLine text (length lines + 1)
 first_bad text last lines rest later begin stand some ended next = record {
@@ -81,7 +81,7 @@ first_bad text last lines rest later begin stand some ended next = record {
   here = no_lines;
 }
   where
-    -- a line stands behind another part
+    -- a line comes after another part
     ended_behind : (more : List Line) (end : List ℕ) (ends behind : List (List ℕ)) → LinesThen more (end ∷ ends) behind → behind ≢ []
     ended_behind more end ends behind h = λ z. some_part (LinesThen-nil more (end ∷ ends) (subst (LinesThen more (end ∷ ends)) z h))
       where
@@ -122,7 +122,7 @@ unended text last lines rest begin stand some none =
     first_bad text last lines rest [] begin stand some (λ e. let empty : last ≡ [] = cc in none empty)
     (λ said more here later at says behind _. let nothing : later ≡ [] = cc in behind nothing)
 
--- a line that may not stand there
+-- a line that may not be there
 pub refused : (text next later : List ℕ) (lines : List Line) (rest : List (List ℕ)) → BeginSchedule lines → LinesThen lines rest (parts_of text)
     → rest ≡ next ∷ parts_of later
     → ((said : Line) (more : List Line) → LineText said next → BeginSchedule (lines ++ said ∷ more) → ⊥) → FirstBadLine text (length lines + 1)
@@ -200,7 +200,7 @@ one_schedule text one other h k = elim (compare (lines_of one) (lines_of other) 
     ended [] whole stand = whole ∙ append-nil (lines_of other)
     ended (line ∷ more) whole stand = absurd (nothing_more more stand.0 stand.1 stand.3 stand.4)
 
--- where so many lines are the first of some schedule, fewer are
+-- if this number of lines are the first of some schedule, fewer are
 begins_fewer : (text : List ℕ) (few many : ℕ) → few ≤ many → BeginsWell many text → BeginsWell few text
 begins_fewer text few many less h =
     let front : List Line = take few h.lines in

@@ -66,7 +66,7 @@ one_line (client_line call) (event_line event) words h k =
 one_line one other words h k =
     absurd (other_words (line_sign one) (line_sign other) refl (sym (line_signs one words h) ∙ line_signs other words k))
 
--- behind events stand events
+-- after events come events
 events_alone : (events before : List Event) (call : CallSign) (more : List Line)
     → map event_line events ≡ map event_line before ++ client_line call ∷ more → ⊥
 events_alone [] [] call more h = cc
@@ -74,7 +74,7 @@ events_alone [] (e ∷ before) call more h = cc
 events_alone (e ∷ events) [] call more h = cc
 events_alone (e ∷ events) (b ∷ before) call more h = events_alone events before call more (cc)
 
--- where a client stands, no events stand before it, and these clients do
+-- if a client comes, no events come before it, and these clients do
 behind : (all calls : List CallSign) (events before : List Event) (call : CallSign) (more : List Line)
     → map client_line all ++ map event_line events ≡ map client_line calls ++ (map event_line before ++ client_line call ∷ more)
     → (before ≡ []) × ((others : List CallSign) × (all ≡ calls ++ call ∷ others))

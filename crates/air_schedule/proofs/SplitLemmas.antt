@@ -21,7 +21,7 @@ first_word line (Some parts) h =
     let cut = split_parts 32 line (Some parts) h (omega arith) in
     ap words_of cut.0 ∙ slice_split_at (λ octet. eqb octet 32) parts.0.now 32 parts.1.now (lacks 32 parts.0.now cut.1) refl
 
--- where no LF stands
+-- if there is no LF
 pub no_line : (text : List ℕ) → position (λ octet. eqb octet 10) text ≡ None → parts_of text ≡ text ∷ []
 no_line text h = elim (cases_lt (position_or_len (λ octet. eqb octet 10) text) (length text)) [
   | inl below ↦ absurd (grind (arith, common_steps, below, h))
@@ -29,7 +29,7 @@ no_line text h = elim (cases_lt (position_or_len (λ octet. eqb octet 10) text) 
       (λ k d below. fails_before_first (λ octet. eqb octet 10) text k d (omega arith))
 ]
 
--- where the first LF stands at this place
+-- if the first LF is at this place
 pub first_line : (text : List ℕ) (end : ℕ) → position (λ octet. eqb octet 10) text ≡ Some end
     → (end < length text) × (parts_of text ≡ take end text ∷ parts_of (drop (end + 1) text))
 first_line text end h =

@@ -32,6 +32,6 @@ IsNoEvent words = (event : Event) → EventText event words → ⊥
 abbrev pub ReadsEvent : List (List ℕ) → Option StoredEvent → Type 0
 ReadsEvent words answer = MatchOption answer (IsNoEvent words) (λ event. EventText (event_value event) words)
 
--- the same, or memory was wanting
+-- the same, or there was no memory
 abbrev pub TakesEvent : List (List ℕ) → Result StoredEvent LineFault → Type 0
 TakesEvent words answer = MatchResult answer (λ event. EventText (event_value event) words) (IsCause (IsNoEvent words))

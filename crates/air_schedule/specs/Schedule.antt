@@ -6,8 +6,8 @@ use Rattle.px_base.specs.CallSign.{CallSign, IsCall}
 use Rattle.px_base.specs.Octets.{IsOctets}
 
 pub data Event : Type 0 where
-  -- a client is asked: for a new file with a body of so many octets; for its last unfinished upload again; for the
-  -- list of the files of these tokens' selection; for the file of this number
+  -- a client is asked: for a new file with a body of this number of octets; for its last unfinished upload again; for
+  -- the list of the files of these tokens' selection; for the file of this number
   ask_upload : ℕ → ℕ → Event
   ask_resume : ℕ → Event
   ask_list : ℕ → List ℕ → Event

@@ -1,5 +1,5 @@
--- The text of a schedule: lines, each ended by LF, whose words one blank parts. Numbers are decimal, without leading
--- zero.
+-- The text of a schedule: lines, each ended by LF, whose words are separated by one blank. Numbers are decimal, without
+-- leading zero.
 use Rattle.std.specs.Prelude.{◌≡◌, ◌==◌, ℕ, ◌-◌, ◌<◌, ◌≤◌, ◌^◌, List, [], ◌∷◌, ◌++◌, codes, decimal, length, map, Ok}
 use Rattle.std.specs.List.{slice_split}
 use Rattle.hex.specs.Hex.{decode_of}
@@ -18,7 +18,7 @@ pub data Line : Type 0 where
 abbrev pub lines_of : Schedule → List Line
 lines_of schedule = window_line schedule.size ∷ (map client_line schedule.calls ++ map event_line schedule.events)
 
--- the parts of a text between its LFs: its lines, and what stands behind the last LF
+-- the parts of a text between its LFs: its lines, and what comes after the last LF
 abbrev pub parts_of : List ℕ → List (List ℕ)
 parts_of text = slice_split (λ octet. octet == 10) text
 
@@ -74,7 +74,7 @@ LinesThen [] rest parts = parts ≡ rest
 LinesThen (line ∷ lines) rest parts =
     (text : List ℕ) × (later : List (List ℕ)) × LineText line text × (parts ≡ text ∷ later) × LinesThen lines rest later
 
--- this text is the schedule: its lines, and nothing behind the last LF
+-- this text is the schedule: its lines, and nothing after the last LF
 pub record ScheduleText (schedule : Schedule) (text : List ℕ) : Type 0 where
   pub is_schedule : IsSchedule schedule
   pub lines : LinesThen (lines_of schedule) ([] ∷ []) (parts_of text)
@@ -84,7 +84,7 @@ abbrev pub BeginSchedule : List Line → Type 0
 BeginSchedule lines =
     (schedule : Schedule) × (more : List Line) × IsSchedule schedule × (lines_of schedule ≡ lines ++ more)
 
--- so many lines of the text, each ended by LF, are the first lines of some schedule
+-- this number of lines of the text, each ended by LF, are the first lines of some schedule
 pub record BeginsWell (count : ℕ) (text : List ℕ) : Type 0 where
   pub lines : List Line
   pub last : List ℕ
@@ -110,7 +110,7 @@ abbrev pub OneFirstBadLine : Type 0
 OneFirstBadLine =
     (text : List ℕ) (one other : ℕ) → FirstBadLine text one → FirstBadLine text other → one ≡ other
 
--- .. and none where it is the text of a schedule.
+-- .. and none if it is the text of a schedule.
 abbrev pub NoFirstBadLine : Type 0
 NoFirstBadLine =
     (text : List ℕ) (schedule : Schedule) (line : ℕ) → ScheduleText schedule text → FirstBadLine text line → ⊥

@@ -17,7 +17,7 @@ const MOST_OCTETS: u64 = 40_000;
 /// The last number of a file.
 const LAST_NUMBER: u64 = 4_294_967_295;
 
-/// The event of a line whose words behind `ask` are these. Takes memory.
+/// The event of a line whose words after `ask` are these. Takes memory.
 pub(crate) fn read_ask(alloc: Global, fields: &str) -> Result<Event, LineFault>
     ensures { TakesEvent (codes "ask" ∷ words_of fields.now) result }
 {
@@ -29,7 +29,7 @@ pub(crate) fn read_ask(alloc: Global, fields: &str) -> Result<Event, LineFault>
     read_job(alloc, client, job)
 }
 
-/// The event of a line whose words behind `ask` and the number of a client are these, and not `resume`. Takes memory.
+/// The event of a line whose words after `ask` and the number of a client are these, and not `resume`. Takes memory.
 fn read_job(alloc: Global, client: u64, job: &str) -> Result<Event, LineFault>
     requires { job.now ≢ codes "resume" }
     ensures { TakesEvent (codes "ask" ∷ decimal client ∷ words_of job.now) result }
@@ -50,7 +50,7 @@ fn read_job(alloc: Global, client: u64, job: &str) -> Result<Event, LineFault>
     Err(LineFault::NoLine)
 }
 
-/// The upload that a client is asked for, of a file whose body has so many octets.
+/// The upload that a client is asked for, of a file whose body has this number of octets.
 fn read_upload(client: u64, octets: &str) -> Option<Event>
     ensures { ReadsEvent (codes "ask" ∷ decimal client ∷ codes "upload" ∷ words_of octets.now) result }
 {

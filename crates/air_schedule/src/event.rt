@@ -16,7 +16,7 @@ pub enum Event {
         /// The number of the client.
         client: u64,
     },
-    /// `ask C list HEX`: a client is asked for the list of the files that a selection holds of.
+    /// `ask C list HEX`: a client is asked for the list of the files that a selection matches.
     AskList {
         /// The number of the client.
         client: u64,

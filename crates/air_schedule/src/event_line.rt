@@ -42,7 +42,7 @@ fn read_plain(keyword: &str, fields: &str) -> Option<Event>
     None
 }
 
-/// The event of a line whose words behind `air` are these.
+/// The event of a line whose words after `air` are these.
 fn read_air(fields: &str) -> Option<Event>
     ensures { ReadsEvent (codes "air" ∷ words_of fields.now) result }
 {
@@ -64,7 +64,7 @@ fn read_air(fields: &str) -> Option<Event>
     None
 }
 
-/// The event of a line whose word behind `tick` is this.
+/// The event of a line whose word after `tick` is this.
 fn read_tick(station: &str) -> Option<Event>
     ensures { ReadsEvent (codes "tick" ∷ words_of station.now) result }
 {
@@ -77,7 +77,7 @@ fn read_tick(station: &str) -> Option<Event>
     }
 }
 
-/// The event of a line whose word behind `break` is this.
+/// The event of a line whose word after `break` is this.
 fn read_break(client: &str) -> Option<Event>
     ensures { ReadsEvent (codes "break" ∷ words_of client.now) result }
 {
@@ -85,7 +85,7 @@ fn read_break(client: &str) -> Option<Event>
     Some(Event::BreakClient { client })
 }
 
-/// The event of a line whose words behind `cut` are these.
+/// The event of a line whose words after `cut` are these.
 fn read_cut(fields: &str) -> Option<Event>
     ensures { ReadsEvent (codes "cut" ∷ words_of fields.now) result }
 {

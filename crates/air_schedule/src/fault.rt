@@ -26,14 +26,14 @@ pub enum ScheduleFault {
 /// Why a line was not read.
 #[derive(Clone, Copy, Debug, PartialEq, Eq)]
 pub(crate) enum LineFault {
-    /// It is no line that may stand there.
+    /// It is no line that may be there.
     NoLine,
     /// No memory was left for what it says.
     OutOfMemory,
 }
 
 impl LineFault {
-    /// What this is of the whole text, where it came at the line of this number.
+    /// What this is of the whole text, if it came at the line of this number.
     pub(crate) fn at(self, line: u64) -> ScheduleFault
         ensures no_line { self ≡ LineFault.NoLine → result ≡ ScheduleFault.BadLine line }
         ensures memory { self ≡ LineFault.OutOfMemory → result ≡ ScheduleFault.OutOfMemory }

@@ -51,8 +51,8 @@ impl Model for Schedule {
 }
 
 impl Schedule {
-    /// Reads the text of a schedule: its lines, each ended by LF. `BadLine` comes exactly where the text is none, for
-    /// the first line that can't be a schedule's, before any event is played. Takes memory.
+    /// Reads the text of a schedule: its lines, each ended by LF. `BadLine` comes exactly if the text is none, for the
+    /// first line that can't be a schedule's, before any event is played. Takes memory.
     pub fn read(alloc: Global, text: &[u8]) -> Result<Schedule, ScheduleFault>
         ensures read { IfOk result (λ schedule. ScheduleText schedule text.now) }
         ensures bad { (line : ℕ) → result ≡ Err (ScheduleFault.BadLine line) → FirstBadLine text.now line }
@@ -143,7 +143,7 @@ impl Schedule {
         Ok(())
     }
 
-    /// Takes one more client, where there are fewer than eight, no event stands, and none has its call. Takes memory.
+    /// Takes one more client, if there are fewer than eight, there is no event, and none has its call. Takes memory.
     fn add_client(&mut self, call: Call) -> Result<(), LineFault>
         requires { IsCall call }
         ensures taken { OnOk result (lines_of self.new ≡ lines_of self.old ++ client_line call ∷ []) }

@@ -14,7 +14,7 @@ GoesOnWell party wanted =
     (task known : ℕ) (file : List ℕ) → wanted ≡ work.Upload (new_upload task known file) → 1 ≤ known
     → HasNumber party task known
 
--- This work may be asked of a client of a sound world, where no file is asked for the first time.
+-- This work may be asked of a client of a sound world, if no file is asked for the first time.
 pub ask-again : (old : World) (c : ℕ) (party : Party) (wanted : Work) → Sound old → PartyAt old c party
     → IsNotBegun wanted → GoWith party.client.lists wanted → GoesOnWell party wanted → IsWork old.files party wanted
     → MayBeAsked old c party party [] wanted

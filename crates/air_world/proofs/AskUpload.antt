@@ -13,7 +13,7 @@ place-new : {X : Type 0} (xs : List X) (last : X) → slice_get (xs ++ last ∷ 
 place-new [] last = refl
 place-new (x ∷ xs) last = place-new xs last
 
--- what stands at a place of a list with one more stood there, or is that one, at the end
+-- what is at a place of a list with one more was there before, or is that one, at the end
 place-before : {X : Type 0} (xs : List X) (last : X) (place : ℕ) (x : X) → slice_get (xs ++ last ∷ []) place ≡ Some x
     → (slice_get xs place ≡ Some x) ⊎ ((place ≡ length xs) × (x ≡ last))
 place-before [] last zero x there = inr (refl, sym (same_Some last x there))
@@ -209,7 +209,7 @@ module _ (old : World) (c : ℕ) (party : Party) (it : Asked) (sound : Sound old
         work = last-file;
       }
 
--- the upload that a schedule asks next, with a body of so many octets
+-- the upload that a schedule asks next, with a body of this number of octets
 pub ask-upload : BeginLaw → (old : World) (c : ℕ) (party : Party) (count : ℕ) → Sound old → PartyAt old c party
     → task_count party.client.lists < most_tasks → count ≤ 40000
     → MayBeAsked old c party (tasked old (next_upload old c count) party) (next_upload old c count ∷ [])

@@ -3,8 +3,8 @@ use Rattle.std.proofs.Common.{◌≡◌, ℕ, ◌≤◌, List, ◌++◌, [], ref
 use Rattle.ftl0_client_job.specs.declared.work.Work.TheVariants as work
 use Rattle.air_world.proofs.Names.{AllByRecursion, Work, IsNotBegun, NotesGoWith, new_job, new_upload, Attempt, Asked, Party, HasFacts, HasNumber, AreTasks, IsWork, IsGoodFile, PartyAt, World, IsParty, Sound}
 
--- What is known of a client that begins an attempt, where these files were asked, and of its base, which has its task
--- already, where it is a file's for the first time: the stations and the attempts are the same, and the base has its
+-- What is known of a client that begins an attempt, if these files were asked, and of its base, which has its task
+-- already, if it is a file's for the first time: the stations and the attempts are the same, and the base has its
 -- facts, its tasks and the works of its attempts still.
 pub record IsBase (old : World) (c : ℕ) (party base : Party) (asked : List Asked) : Type 0 where
   pub me : base.client.me ≡ party.client.me
@@ -16,7 +16,7 @@ pub record IsBase (old : World) (c : ℕ) (party base : Party) (asked : List Ask
   pub works : AllByRecursion (λ (a : Attempt). IsWork (old.files ++ asked) base a.client.asked) party.attempts
   pub good : AllByRecursion (λ (it : Asked). IsGoodFile it.file) asked
 
--- a client of a sound world is its own base, where no file is asked
+-- a client of a sound world is its own base, if no file is asked
 pub same-base : (old : World) (c : ℕ) (party : Party) → Sound old → PartyAt old c party → IsBase old c party party []
 same-base old c party sound is =
     let it : IsParty old c party = sound.parties c party is in
@@ -34,7 +34,7 @@ same-base old c party sound is =
       good = tt;
     }
 
--- This work may be asked of the client, where these files were asked: the notes go with it, and so do the uploads.
+-- This work may be asked of the client, if these files were asked: the notes go with it, and so do the uploads.
 pub record MayBeAsked (old : World) (c : ℕ) (party base : Party) (asked : List Asked) (wanted : Work) : Type 0 where
   pub base_is : IsBase old c party base asked
   pub link : base.client.attempt ≡ party.client.attempt

@@ -1,4 +1,5 @@
--- Schedules whose events may come have their worlds, and a cut lets each number of commands stand.
+-- Schedules whose events may come have their worlds, and a cut may leave the first of the commands done, for any number
+-- of them.
 use Rattle.std.proofs.Common.{◌≡◌, ℕ, zero, suc, ◌≤◌, List, [], ◌∷◌, length, map, true, false, refl, sym, subst}
 use Rattle.client_notes.specs.Several as notes
 use Rattle.air_world.proofs.Names.{after_first, new_server, Party, sessions_over, with_asked, NodeEvent, ClientDoes, ClientEvent, ClientIsCut, Happens, Plays, ServerDoes, ServerEvent, ServerIsCut, client_commands, party_cut, server_commands, ClientPart, ClientTakes, IsPartOf, ServerTakes, CutsLaw, ExistenceLaw, MayPlay, RunLaw, SoundLaw, Event, ask_download, ask_list, ask_resume, ask_upload, break_client, cut_client, cut_server, tick_client, tick_server, to_client, to_server, Sound, PartyAt, World, counted, first_world}

@@ -7,7 +7,7 @@ use Rattle.air_world.proofs.ClientBasics.{goes-with}
 use Rattle.air_world.proofs.ClientBegun.{Begins, begun-made}
 use Rattle.air_world.proofs.ClientMade.{IsClientMade}
 
--- whether a client has something to send doesn't hang on its notes, nor on what else is alike
+-- whether a client has something to send doesn't depend on its notes, nor on what else is alike
 still-silent : (one other : Client) → other.window ≡ one.window → other.attempt ≡ one.attempt → other.stray ≡ one.stray
     → IsSilent one → IsSilent other
 still-silent one other window attempt stray silent = by one.stray other.stray stray refl silent

@@ -13,7 +13,7 @@ link-of : (o : Option Attempt) (it : Attempted) → IsLinkOf o (Some it)
 link-of None it is = absurd is
 link-of (Some a) it is = (a, refl, is)
 
--- the notes go with the job, where its own is such
+-- the notes go with the job, if its own is such
 pub stands-job : (asked : Work) (lists : Lists) (side : ClientSide) → IsJob side
     → JobStands asked lists side.attempted.job → AttemptStands asked lists side.attempted
 stands-job asked lists side job stands = record {

@@ -227,7 +227,7 @@ module _ (laws : ClientLaws) (some_step : SomeStepLaw) (old new : World) (sound 
           (did-is did tasked-party.client goes.old_is)))
           goes.new_is
 
-      -- the start of the task stands, or it doesn't
+      -- the start of the task is noted, or it isn't
       begin-cut-made : (count : ℕ) → IsClientMade old c party (party_cut begin-part count) (it ∷ [])
       begin-cut-made zero =
           let own = sound.parties c party is in

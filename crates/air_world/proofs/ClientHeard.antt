@@ -14,7 +14,7 @@ use Rattle.air_world.proofs.JobWent.{Went, client-made, facts-during, tasks-duri
 use Rattle.air_world.proofs.Rebuild.{stands-at}
 use Rattle.air_world.proofs.SayLemmas.{may-say-at}
 
--- where nothing is noted the notes stay
+-- if nothing is noted the notes stay
 pub nothing-noted : (count : ℕ) (lists : Lists) (noted : List NotesCommand) → noted ≡ []
     → notes.after_first count lists noted ≡ lists
 nothing-noted zero lists noted none = refl
@@ -136,7 +136,7 @@ module _ (laws : ClientLaws) (old : World) (sound : Sound old) (c : ℕ) (party 
             (sym attempts-are)
             (client-made laws old sound c party coming.is link has now went-heard)
 
-        -- what stands after the first of the commands
+        -- what is true after the first of the commands
         pub linked-facts : (count : ℕ)
             → HasFacts old.server.store old.files
             (started_with party (notes.after_first count party.client.lists noted))

@@ -1,4 +1,4 @@
--- A world that a client's event made of a sound one is sound where that client is as it should be.
+-- A world that a client's event made of a sound one is sound if that client is as it should be.
 use Rattle.std.proofs.Common.{◌≡◌, ◌≢◌, ◌⊎◌, ℕ, zero, suc, ◌≤◌, List, [], ◌∷◌, ◌++◌, drop, Option, None, Some, refl}
 use Rattle.std.proofs.Common.{sym, ap, subst, ◌∙◌, inl, inr}
 use Rattle.ftl0_client_job.specs.declared.work.Work.TheVariants as work
@@ -39,7 +39,7 @@ tasks-more files more c party tasks = record {
 
 -- ---- the client of the event
 
--- what the client is to be, where these uploads were asked
+-- what the client is to be, if these uploads were asked
 pub record IsClientMade (old : World) (c : ℕ) (was now : Party) (asked : List Asked) : Type 0 where
   pub me : now.client.me ≡ was.client.me
   pub server : now.client.server ≡ was.client.server
@@ -188,12 +188,12 @@ module _ (begin_law : BeginLaw) (old : World) (sound : Sound old) (c : ℕ) (was
       let was = map-at (λ (a : Attempt). a.server) olds at b.server in_olds in
       (was.0, was.1, sym was.2 ∙ is_side)
 
-  -- how much further behind the client's sessions stand
+  -- the place of the session of the client's that was at this one
   abbrev pub shifted : SessionsStay was.attempts now.attempts → ℕ → ℕ
   shifted (inl same) earlier = earlier
   shifted (inr one) earlier = suc earlier
 
-  -- a number was given at this place of the client's, or, where an attempt came, at the one before
+  -- a number was given at this place of the client's, or, if an attempt came, at the one before
   pub record WasGranted (number at grant : ℕ) : Type 0 where
     pub earlier : ℕ
     pub granted : GrantedAt old number earlier grant

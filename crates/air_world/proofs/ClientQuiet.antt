@@ -1,4 +1,5 @@
--- A client that an event leaves as it was, but for what was delivered and sent, and one that starts again from its notes.
+-- A client that an event leaves as it was, except for what was delivered and sent, and one that starts again from its
+-- notes.
 use Rattle.std.proofs.Common.{◌≡◌, ℕ, List, [], ◌∷◌, ◌++◌, Option, None, Some, refl, sym, ap, subst, inl, append-nil}
 use Rattle.air_world.proofs.Names.{AllByRecursion, FrameValue, Transmission, IsWindow, Lists, AttemptStands, Attempt, AreAttempts, GoesWith, Asked, EachAttempt, Party, client_sends, newest, to_client_delivered, with_newest, ServerSide, each-weaker, HasFacts, LookLike, LooksLike, StayLaw, started_with, AreTasks, IsWork, IsGoodFile, alike-itself, served-itself, tasks-lists, IsParty, Sound, PartyAt, World}
 use Rattle.air_world.proofs.ClientBasics.{goes-with}
@@ -55,7 +56,7 @@ module _ (stay_law : StayLaw) (old : World) (sound : Sound old) (c : ℕ) (party
         good = tt;
       }
 
-  -- The client starts again from notes of which it has the facts and the tasks, where these files were asked.
+  -- The client starts again from notes of which it has the facts and the tasks, if these files were asked.
   module _ (attempts_are : AreAttempts party.client.me party.client.server attempts) (asked : List Asked) (base : Party)
       (lists : Lists)
       (me_is : base.client.me ≡ party.client.me) (server_is : base.client.server ≡ party.client.server)

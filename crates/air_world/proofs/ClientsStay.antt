@@ -97,7 +97,7 @@ module _ (P : ClientSide → Type 0) where
   stay-each (a ∷ olds) [] stays all = absurd stays
   stay-each (a ∷ olds) (b ∷ news) stays all = (subst P (sym stays.0.client) all.0, stay-each olds news stays.1 all.1)
 
-  -- what holds of the current one's side
+  -- what is true of the current one's side
   pub stay-newest : (olds news : List Attempt) → ClientsStay olds news
       → ((a : Attempt) → slice_get olds 0 ≡ Some a → P a.client)
       → (b : Attempt) → slice_get news 0 ≡ Some b → P b.client

@@ -26,7 +26,7 @@ module _ (left_law : LeftLaw) (stay_law : StayLaw) (old : World) (sound : Sound 
 
 -- ---- a frame
 
--- What an event with these commands leaves of its client where it is cut. Each is allowed in its turn, and none gives a
+-- What an event with these commands leaves of its client if it is cut. Each is allowed in its turn, and none gives a
 -- file up.
 pub record LeavesOwn (old : World) (party : Party) (commands : List Command) : Type 0 where
   pub during : (count : ℕ) → LeftIn old.files party old.server.store (after_first count old.server.store commands)

@@ -12,7 +12,7 @@ use Rattle.air_world.proofs.DuringNotes.{AreRight, StaysBut, headline-noted}
 use Rattle.air_world.proofs.DuringRight.{right-facts, right-own, right-tasked}
 use Rattle.air_world.proofs.Marked.{lawful-sent}
 
--- the notes of the client of this part, after the first so many of the event's commands
+-- the notes of the client of this part, after this number of the event's commands
 abbrev noted : ClientPart → ℕ → Lists
 noted part count = notes.after_first count part.party.client.lists (client_commands part)
 
@@ -29,7 +29,7 @@ stays-itself party lists = record {
   each = λ place a is. (a, is, refl, refl);
 }
 
--- also where a delivery to it is marked
+-- also if a delivery to it is marked
 stays-delivered : (party : Party) (place : ℕ) (t : Transmission) (lists : Lists)
     → StaysBut party (with_lists (with_current (to_client_delivered place t) party) lists)
 stays-delivered party place t lists = record {

@@ -1,4 +1,4 @@
--- What is promised holds where a client's notes say more, as far as they are right.
+-- What is promised is true if a client's notes say more, as far as they are right.
 use Rattle.std.proofs.Common.{◌≡◌, ◌⊎◌, ℕ, List, Some, sym, ap, subst, ◌∙◌, inl, inr}
 use Rattle.client_notes.specs.declared.answers.Noted.TheVariants as noted
 use Rattle.ftl0_client_job.specs.declared.ending.Outcome.TheVariants as outcome
@@ -6,7 +6,7 @@ use Rattle.air_world.specs.Files.Kept.{HoldsAck, IsKept, IsTaskKept}
 use Rattle.air_world.proofs.Names.{slice_get, HasNoFault, HasNoFront, Store, file_of, noted_at, Lists, got_of, outcome_of, outcome_by, Attempt, Asked, IsFileOf, Party, newest, Offers, ClientSide, ServerSide, set-at, HasWhole, HeadlineIn, Offered, Sound, PartyAt, World, with_party}
 use Rattle.air_world.proofs.PartsLemmas.{are-offered, fetched-current, has-headline}
 
--- The client is that one, but for its notes, and for what is marked as delivered of its transmissions.
+-- The client is that one, except for its notes, and for what is marked as delivered of its transmissions.
 pub record StaysBut (party now : Party) : Type 0 where
   pub me : now.client.me ≡ party.client.me
   pub server : now.client.server ≡ party.client.server

@@ -1,4 +1,4 @@
--- Where an event may come there is a step.
+-- If an event may come there is a step.
 use Rattle.std.proofs.Common.{◌≡◌, ℕ, zero, suc, ◌-◌, ◌<◌, [], length, reverse, get_or, refl, sym, subst, arith, Bool}
 use Rattle.std.proofs.Common.{true, false, Option, None, Some, inl, inr}
 use Rattle.ftl0_server.specs.StepLaws.Steps as server
@@ -23,7 +23,7 @@ server-event some world event coming delivered sound takes =
     let does = server-does some world coming delivered world.is_cut sound in
     (does.0, record { coming = coming; delivered = delivered; takes = takes; does = does.1 })
 
--- whether a client has anything to send isn't told by its notes
+-- whether a client has anything to send doesn't depend on its notes
 silent-noted : (it : Client) (lists : Lists) → IsSilent it → IsSilent (record it { lists = lists })
 silent-noted it lists silent = by it.stray silent
   where

@@ -1,4 +1,4 @@
--- The store of a sound world follows from one world to the next, and so does what stands while an event is under way.
+-- The store of a sound world follows from one world to the next, and so does what is there while an event is under way.
 use Rattle.std.proofs.Common.{◌≡◌, ℕ, zero, suc, List, [], ◌∷◌, Bool, true, false, length, take, refl, sym, ap, subst, ◌∙◌}
 use Rattle.file_store_model.proofs.Offered.{AreAllowed-first, follows_law, none_dropped}
 use Rattle.file_store.specs.Command.{after_all}
@@ -26,13 +26,13 @@ pub follows-blocks : (before now : Store) → Follows before now → now.blocks 
 follows-blocks before now follows =
     ap (λ (store : Store). store.blocks) follows.does.1 ∙ commands-blocks before follows.commands
 
--- ---- what stands while an event is under way
+-- ---- what is there while an event is under way
 
 follows-same : (before now : Store) → now ≡ before → Follows before now
 follows-same before now same = record { commands = []; calls = tt; does = (tt, same) }
 
--- What an event of the server's does to the store: what stands after the first so many of its commands follows. Each
--- command is allowed in its turn, and none gives a file up.
+-- What an event of the server's does to the store: what is there after the first of its commands follows, for any
+-- number of them. Each command is allowed in its turn, and none gives a file up.
 pub record DoesSo (world : World) (coming : NodeEvent) : Type 0 where
   pub follows : (count : ℕ) → Follows world.server.store (after_first count world.server.store (server_commands world coming))
   pub allowed : AreAllowed world.server.store (server_commands world coming)
@@ -101,7 +101,7 @@ module _ (laws : ServerLaws) (world : World) (sound : Sound world) where
   store-after (tick_comes moment) delivered new goes =
       (laws.ticks.server world.server moment goes.gives (between world sound) goes.step).0.store_is
 
-  -- so it is the one after so many of the event's commands
+  -- so is the one after this number of the event's commands
   server-does : (cut : Bool) (coming : NodeEvent) (delivered new : World) → ServerDoes cut world coming delivered new
       → (count : ℕ)
       × (new.server.store ≡ after_first count world.server.store (server_commands world coming))

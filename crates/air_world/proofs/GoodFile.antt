@@ -56,14 +56,14 @@ given-item id content some below most all =
     (All-weaker (λ x. nat_lt x 256 ≡ true) (λ x. x < 256) (λ x is. grind (arith, nat_tests)) content
     (AllPass-from_list_all (λ x. nat_lt x 256) content all))
 
--- what stands once stands
+-- what is there once is there
 all-stand : (items : List ItemValue) (rules : List MandatoryItem) → AllByRecursion (StandsOnce items) rules
     → AllByRecursion (Stands items) rules
 all-stand items [] once = tt
 all-stand items (rule ∷ rules) once =
     (λ none. absurd (let same = sym once.0.1 ∙ none in let x : ⊥ = cc in x), all-stand items rules once.1)
 
--- ---- a header with these numbers keeps all rules, where they are so
+-- ---- a header with these numbers keeps all rules, if they are so
 
 module _ (file_size body_sum body_offset sum : ℕ) where
   abbrev items : List ItemValue
@@ -206,7 +206,7 @@ module _ (body : List ℕ) where
       (faultless size (sum16 body) (built_len file_header) check body (ap (λ n. n + length body) header-len) short refl
       header-len sum-is)
 
--- a file of octets, so many at most, with the header that is built for it, is good
+-- a file of octets, at most this number of them, with the header that is built for it, is good
 good-file : (body : List ℕ) → IsOctets body → length body ≤ 40000 → IsGoodFile (header_text (list body) ++ body)
 good-file body octets short =
     let is = built-faultless body short in

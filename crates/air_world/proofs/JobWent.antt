@@ -13,7 +13,7 @@ use Rattle.air_world.proofs.SessionsStay.{SessionsStay, sessions_of}
 use Rattle.air_world.proofs.ServerTicked.{its-session}
 use Rattle.air_world.proofs.Rebuild.{work-by}
 
--- the notes behind entries are those after their commands
+-- the notes after entries are those after their commands
 pub goes-lists : (lists lists_now : Lists) (before now : JobState) (entries : List JobEntry)
     → job.GoesBy lists before entries lists_now now → lists_now ≡ after_all lists (job.commands_in entries)
 goes-lists lists lists_now before now [] goes = goes.0
@@ -163,7 +163,7 @@ module _ (laws : ClientLaws) (old : World) (sound : Sound old) (c : ℕ) (party 
         })
         kept.facts
 
-    -- the tasks, behind the entries and where the client starts again after the first of their commands
+    -- the tasks, after the entries and when the client starts again after the first of their commands
     pub tasks-during : (count : ℕ)
         → AreTasks old.files c (started_with party (notes.after_first count party.client.lists went.happened.noted))
     tasks-during count =

@@ -1,4 +1,4 @@
--- Attempts that are such as others were, but for the ends of their links and what was sent.
+-- Attempts that are such as others were, except for the ends of their links and what was sent.
 use Rattle.std.proofs.Common.{◌≡◌, ℕ, zero, suc, List, [], ◌∷◌, Option, None, Some, refl, sym, ap, subst, ◌∙◌}
 use Rattle.ftl0_server.specs.Entries as session
 use Rattle.air_world.proofs.Names.{slice_get, AllByRecursion, option_map_or, option_or, same_Some, CallSign, State, SessionEntry, Client, Attempt, Party, newest_side, with_answered, with_newest, Grants, ClientSide, ServerSide, SessionReaches, IsSameParty, LookLike, LooksLike, LooksLikeSession, LooksServed, alike-itself, served-itself}
@@ -9,7 +9,7 @@ pub newest-like : (change : Attempt → Attempt) (attempts : List Attempt) → (
 newest-like change [] each = tt
 newest-like change (a ∷ older) each = (each a, alike-itself older)
 
--- where no session answered, nothing is changed
+-- if no session answered, nothing is changed
 answered-none : (change : Attempt → ServerSide → Attempt) (attempts : List Attempt) → newest_side attempts ≡ None
     → with_answered change attempts ≡ attempts
 answered-none change [] is = refl

@@ -1,4 +1,4 @@
--- A world that the server's event made of a sound one is sound where the server, its places, its store and each client's
+-- A world that the server's event made of a sound one is sound if the server, its places, its store and each client's
 -- attempts and facts are as they should be.
 use Rattle.std.proofs.Common.{◌≡◌, ℕ, ◌≤◌, List, Option, None, Some, length, refl, sym, ap, subst, ◌∙◌}
 use Rattle.ftl0_client_job.specs.declared.work.Work.TheVariants as work
@@ -63,7 +63,7 @@ stands-by party None each = tt
 stands-by party (Some a) each = each a refl
 
 module _ (old new : World) (sound : Sound old) (stay : StayParties old new) (made : IsMade new) where
-  -- what held of each client holds of each
+  -- what was true of each client is true of each
   each-client : (P : Client → Type 0) → AllByRecursion (λ (p : Party). P p.client) old.parties
       → AllByRecursion (λ (p : Party). P p.client) new.parties
   each-client P all =

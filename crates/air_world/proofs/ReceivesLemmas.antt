@@ -88,7 +88,7 @@ received-task world c party a side task number rest sound numbered there has is 
           number_is).1
     ]
 
--- the first octets of a file are a front of it
+-- the first octets of a file are a prefix of it
 front-of : (count : ℕ) (file octets : List ℕ) → octets ≡ take count file → IsFront octets file
 front-of count file octets first = (
   drop count file,

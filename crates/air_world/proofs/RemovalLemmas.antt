@@ -9,7 +9,7 @@ use Rattle.ftl0_server.specs.StepLaws.Steps as server
 use Rattle.air_world.specs.Sound.{GrantedAt}
 use Rattle.air_world.proofs.Names.{option_map, Refusal, FollowsLaw, after, drop_entry, Store, State, download_part, in_session, next_due, Server, sends_of_places, PlacesSend, Slot, connected, free, leaving, places_next, Party, drop-keeps, drop-sound, facts-removed, RemovalLaw, without_entry, ArePlaces, AreStationsOf, IsParty, PartyAt, World}
 
--- whether anything is due is told by the state alone
+-- whether anything is due depends on the state alone
 due-none : (store other : Store) (state : State) (fails : Bool) → next_due store state fails ≡ None
     → next_due other state fails ≡ None
 due-none store other state fails none = by (is_due (download_part state)) none

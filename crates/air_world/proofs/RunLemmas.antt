@@ -1,4 +1,5 @@
--- What is promised holds over a lawful schedule, where it holds of each sound world and each event keeps a world sound.
+-- What is promised is true over a lawful schedule, if it is true of each sound world and each event keeps a world
+-- sound.
 use Rattle.std.proofs.Common.{List, [], ◌∷◌, sym, subst}
 use Rattle.air_world.proofs.Names.{AllByRecursion, each-weaker, IsRun, Plays, NoCutsLaw, PartsLaw, PrefixesLaw, ScheduleLaw, SoundLaw, Event, Schedule, Sound, World, first_world}
 

@@ -6,7 +6,7 @@ use Rattle.air_world.proofs.Names.{slice_get, IfSome, MatchOption, option_or, Al
 -- ---- the place of a caller
 
 module _ (caller : CallSign) (slots : List Slot) where
-  -- where a place has one, one is found
+  -- if a place has one, one is found
   pub finds-slot : (place : ℕ) (c : Connected) → slice_get slots place ≡ Some (connected c) → caller_of c ≡ caller
       → (found : ℕ) × (place_of caller slots ≡ Some found)
   finds-slot place c at is = by (place_of caller slots) refl
@@ -138,7 +138,7 @@ module _ (world : World) (sound : Sound world) where
 
 -- ---- together
 
--- the newest one is up, where one is
+-- the newest one is up, if one is
 up-is-newest : (attempts : List Attempt) (at : ℕ) (a : Attempt) (side : ServerSide) → OnlyNewestUp attempts
     → slice_get attempts at ≡ Some a → a.server ≡ Some side → side.is_up ≡ true
     → newest_side attempts ≡ Some side

@@ -8,7 +8,7 @@ use Rattle.air_world.proofs.Marked.{IsComing, delivers, from-client, marked}
 use Rattle.air_world.proofs.Seats.{between, calls}
 use Rattle.air_world.proofs.ServerTicked.{its-session}
 
--- what stands of each client beside its facts
+-- what is true of each client besides its facts
 pub stands : (world : World) → Sound world → (c : ℕ) (party : Party) → PartyAt world c party
     → Stands world.files c party
 stands world sound c party is =

@@ -1,4 +1,4 @@
--- An event of the server's that is cut keeps a sound world, where what it leaves of the store does.
+-- An event of the server's that is cut keeps a sound world, if what it leaves of the store does.
 use Rattle.std.proofs.Common.{◌≡◌, ℕ, List, [], ◌∷◌, false, Option, None, Some, length, refl, sym, ap, subst, ◌∙◌}
 use Rattle.std.proofs.Common.{arith}
 use Rattle.air_world.proofs.Names.{map, slice_get, MatchOption, option_map, length-map, CallSign, IsWindow, Window, Store, Connected, all_free, new_server, Slot, connected, free, leaving, Client, Attempt, AreAttempts, Calls, IsBetween, LeftLaw, AreOver, OnlyNewestUp, Party, all_over, over, sessions_over, ServerSide, all-at, are-over, HasFacts, LookLike, LooksServed, StayLaw, IsSoundStore, Sound, PartyAt, World, counted}

@@ -38,7 +38,7 @@ module _ (laws : HearingLaws) (old : World) (sound : Sound old) (c : ℕ) (party
       (laws.hears.own old.server t.frame moment gives party.attempts those (between old sound) fits calls-src
       (delivers old sound c party place t coming) step)
 
-  -- where the store and the lists stay, and the attempts are such as they were
+  -- if the store and the lists stay, and the attempts are such as they were
   module _ (quiet : (gives.done ≡ []) × (gives.new.lists ≡ old.server.lists)) where
     store-is : gives.new.store ≡ old.server.store
     store-is = stays.store_is ∙ ap (λ done. after_all old.server.store done) quiet.0

@@ -28,7 +28,7 @@ its-state me server a side is is_side =
 
 module _ (it : Server) (me : CallSign) (attempts : List Attempt) (between_is : IsBetween it)
     (call : Calls it me attempts) (did : ServerDid) (did_old : did.old ≡ it) where
-  -- where the caller has a connection, its newest session is up
+  -- if the caller has a connection, its newest session is up
   newest-up : (c : Connected) (side : ServerSide) → connection_of it me ≡ Some c → newest_side attempts ≡ Some side
       → side.is_up ≡ true
   newest-up c side is newest =

@@ -53,7 +53,7 @@ first-only (a ∷ older) only = by a.server only (first-only older)
     by None only later = later only
     by (Some side) only later = down-over older only
 
--- what is said by the sessions stays where a session that isn't there comes
+-- what is said by the sessions stays if a session that isn't there comes
 module _ (olds news : List Attempt) where
   over-stays : SessionsStay olds news → AreOver olds → AreOver news
   over-stays (inl same) all = down-over news (subst AreDown (sym same) (over-down olds all))

@@ -14,7 +14,7 @@ no-fault : (o : Option FileFault) → option_map code_of o ≡ None → o ≡ No
 no-fault None is = refl
 no-fault (Some fault) is = absurd (cc)
 
--- a front without fault of a file without fault is all of it
+-- a prefix without fault of a file without fault is all of it
 whole-front : HasNoFault → HasNoFront → (file octets : List ℕ) → IsOctets file → fault_code file ≡ None
     → IsFront octets file
     → fault_code octets ≡ None → file ≡ octets

@@ -1,5 +1,5 @@
--- What an event makes of the world where a power cut comes at it, and so what each event makes of the world: a cut
--- lets the first of the event's commands stand, for some number of them.
+-- What an event makes of the world if a power cut comes at it, and so what each event makes of the world: a cut leaves
+-- the first of the event's commands done, for some number of them.
 use Rattle.std.specs.Prelude.{◌≡◌, ℕ, ◌≤◌, List, [], ◌∷◌, ◌++◌, length, take, map, Bool, true, false}
 use Rattle.file_store.specs.Command.{Command}
 use Rattle.file_store.specs.OnDisk.{after_first}
@@ -23,8 +23,8 @@ use Rattle.air_world.specs.World.{World, counted, first_world, with_party}
 abbrev pub server_commands : World → NodeEvent → List Command
 server_commands world coming = (server.happening world.server coming []).done
 
--- The first so many of the event's commands stand. No frame is sent, and the server has neither sessions nor lists:
--- their ends and states stay as they were before the event. The delivery is made all the same.
+-- This number of the event's commands, the first ones, are done. No frame is sent, and the server has neither sessions
+-- nor lists: their ends and states stay as they were before the event. The delivery is made all the same.
 pub record ServerIsCut (old : World) (coming : NodeEvent) (delivered new : World) : Type 0 where
   pub count : ℕ
   pub within : count ≤ length (server_commands old coming)
@@ -47,7 +47,7 @@ started_again it lists = new_client it.me it.server it.window lists
 abbrev pub client_commands : ClientPart → List NotesCommand
 client_commands part = part.started ++ (client.happening (client_started part) part.coming).noted
 
--- the client that starts again from the notes after the first so many of these commands
+-- the client that starts again from the notes after this number of these commands
 abbrev pub party_cut : ClientPart → ℕ → Party
 party_cut part count =
     record part.party {
@@ -58,8 +58,8 @@ party_cut part count =
       is_cut = false;
     }
 
--- The same of a client: it starts again from its notes, and its link and its job stay as they were before the event.
--- A file that was asked is that upload's, also where its task isn't noted.
+-- The same of a client: it starts again from its notes, and its link and its job stay as they were before the event. A
+-- file that was asked is that upload's, also if its task isn't noted.
 pub record ClientIsCut (old : World) (c : ℕ) (part : ClientPart) (new : World) : Type 0 where
   pub count : ℕ
   pub within : count ≤ length (client_commands part)

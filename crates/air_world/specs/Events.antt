@@ -1,4 +1,4 @@
--- Which station takes part in an event, and what comes to it.
+-- Which station takes part in an event, and what reaches it.
 use Rattle.std.specs.Prelude.{◌≡◌, ℕ, ◌+◌, List, [], ◌∷◌, length, Some}
 use Rattle.ax25_link.specs.Air.{IsAt, Transmission}
 use Rattle.turn_loop.specs.Events.{NodeEvent, hears, ticks}
@@ -34,8 +34,8 @@ pub record IsSent (party : Party) (sent : Attempt → List Transmission) (place 
 abbrev pub with_current : (Attempt → Attempt) → Party → Party
 with_current change party = record party { attempts = with_newest change party.attempts }
 
--- A transmission of the client at this place is delivered to the server: this comes to the server, and the world has
--- the delivery marked.
+-- A transmission of the client at this place is delivered to the server: this reaches the server, and the world has the
+-- delivery marked.
 pub record DeliversToServer (old : World) (c place : ℕ) (coming : NodeEvent) (delivered : World) : Type 0 where
   pub party : Party
   pub is_party : PartyAt old c party
@@ -44,15 +44,15 @@ pub record DeliversToServer (old : World) (c place : ℕ) (coming : NodeEvent) (
   pub coming_is : coming ≡ hears t.frame (next_moment old)
   pub delivered_is : delivered ≡ with_party old c (with_current (to_server_delivered place t) party)
 
--- The server takes part in the event: this comes to it, and the world has the delivery, if it is one, marked.
+-- The server takes part in the event: this reaches it, and the world has the delivery, if it is one, marked.
 abbrev pub ServerTakes : World → Event → NodeEvent → World → Type 0
 ServerTakes old (to_server number place) coming delivered =
     Placed number (λ c. Placed place (λ at. DeliversToServer old c at coming delivered))
 ServerTakes old tick_server coming delivered = (coming ≡ ticks (next_moment old)) × (delivered ≡ old)
 ServerTakes old event coming delivered = ⊥
 
--- The part of a client in an event: the client, with the delivery, if it is one, marked; what comes to it; the start
--- of a task that is noted before; and the upload that is asked, if one is, by its number and by its client and file.
+-- The part of a client in an event: the client, with the delivery, if it is one, marked; what reaches it; the start of
+-- a task that is noted before; and the upload that is asked, if one is, by its number and by its client and file.
 pub record ClientPart : Type 0 where
   pub party : Party
   pub coming : ClientEvent
@@ -82,7 +82,7 @@ asking_file world it party =
       asked = it ∷ [];
     }
 
--- the upload that a schedule asks next of the client at this place, with a body of so many octets
+-- the upload that a schedule asks next of the client at this place, with a body of this number of octets
 abbrev pub next_upload : World → ℕ → ℕ → Asked
 next_upload world c count =
     record {

@@ -19,8 +19,8 @@ abbrev pub HasWhole : Store → Party → ℕ → Type 0
 HasWhole store party number = file_of store number ≡ Some (got_of party.client.lists party.client.server number)
 
 -- In this store, that of the world or a later one: each file whose client holds an acknowledgement is kept; no offset
--- that was offered exceeds what is held, where an entry of the number stands; and each finished download, the last
--- one of a client and each one before, has the file's octets.
+-- that was offered exceeds what is held, if there is an entry of the number; and each finished download, the last one
+-- of a client and each one before, has the file's octets.
 pub record HeadlineIn (world : World) (store : Store) : Type 0 where
   pub acknowledged :
       (c task number : ℕ) (party : Party) → PartyAt world c party → HoldsAck party task number
@@ -34,7 +34,7 @@ pub record HeadlineIn (world : World) (store : Store) : Type 0 where
       → slice_get party.attempts place ≡ Some a
       → outcome_of a.client.attempted ≡ Some (outcome.Fetched number) → HasWhole store party number
 
--- What is promised holds still in a store that keeps the entries of one in which it holds, where the numbers of all
+-- What is promised is true still in a store that keeps the entries of one in which it is true, if the numbers of all
 -- offers are below the next one.
 abbrev pub HeadlineStays : Type 0
 HeadlineStays =

@@ -50,7 +50,7 @@ IsPossible world (break_client c) = HasParty world c (λ _. ⊤)
 IsPossible world (cut_server call choice) = ⊤
 IsPossible world (cut_client c call choice) = HasParty world c (λ _. ⊤)
 
--- Whether an event may come. Nothing else is asked of it: where it may, there is a step.
+-- Whether an event may come. Nothing else is asked of it: if it may, there is a step.
 pub record IsAllowed (world : World) (event : Event) : Type 0 where
   pub in_range : IsInRange event
   pub possible : IsPossible world event

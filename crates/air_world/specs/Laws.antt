@@ -40,7 +40,7 @@ pub record PartsLaw : Type 0 where
   pub parts : (world : World) → Sound world → HasParts world
   pub headline : (world : World) → Sound world → HeadlineIn world world.server.store
 
--- the world whose client at this place has noted the first so many commands of its event
+-- the world whose client at this place has noted this number of commands of its event
 abbrev pub noted_first : World → ℕ → ClientPart → ℕ → World
 noted_first world c part count =
     with_party world c
@@ -51,8 +51,8 @@ noted_first world c part count =
           };
     })
 
--- What is promised holds also while whatever event comes next is under way, after the first so many of its commands: of
--- a server's event in the store after them, and of a client's with the notes after them.
+-- What is promised is true also while whatever event comes next is under way, after the first of its commands, for any
+-- number of them: of a server's event in the store after them, and of a client's with the notes after them.
 pub record HoldsDuring (world : World) : Type 0 where
   pub server :
       (event : Event) (coming : NodeEvent) (delivered : World) (count : ℕ) → IsAllowed world event
@@ -70,7 +70,7 @@ PrefixesLaw = (world : World) → Sound world → HoldsDuring world
 abbrev pub HoldsInEach : List World → Type 0
 HoldsInEach worlds = AllByRecursion (λ world. HeadlineIn world world.server.store) worlds
 
--- What is promised holds in each world of a lawful schedule, the first one too, and while the event behind it is under
+-- What is promised is true in each world of a lawful schedule, the first one too, and while the event after it is under
 -- way: in all that the power may leave.
 pub record ScheduleLaw : Type 0 where
   pub worlds :
@@ -86,7 +86,7 @@ NoCutsLaw =
     (schedule : Schedule) (worlds : List World) → AllByRecursion IsNoCut schedule.events → IsRun schedule worlds
     → HoldsInEach worlds
 
--- Where an event may come there is a step.
+-- If an event may come there is a step.
 abbrev pub ExistenceLaw : Type 0
 ExistenceLaw =
     (world : World) (event : Event) → Sound world → IsAllowed world event → (next : World) × WorldStep world event next
@@ -103,7 +103,8 @@ RunLaw =
     (schedule : Schedule) → IsSchedule schedule → MayPlay (first_world schedule) schedule.events
     → (worlds : List World) × IsRun schedule worlds
 
--- At an event that is to be cut each number of the event's commands may stand, and the cut is made then.
+-- At an event that is to be cut the first of the event's commands may be done, for any number of them, and the cut is
+-- made then.
 pub record CutsLaw : Type 0 where
   pub server :
       (world : World) (event : Event) (coming : NodeEvent) (delivered : World) (count : ℕ)
@@ -137,9 +138,9 @@ RemovalLaw =
     → Sound (without_entry world number)
 
 -- The server's store from one world to the next. In a sound world it keeps the rules of a store, and each offer. The
--- store of the next world follows from it, and so does what stands after the first of the commands of whatever event of
--- the server's comes next; in a store that follows, what is promised of the world stays. One that follows may take as
--- many blocks, and that of the first world takes those of a rehearsal.
+-- store of the next world follows from it, and so does what is there after the first of the commands of whatever event
+-- of the server's comes next; in a store that follows, what is promised of the world stays. One that follows may take
+-- as many blocks, and that of the first world takes those of a rehearsal.
 pub record StoresLaw : Type 0 where
   pub next :
       (old new : World) (event : Event) → Sound old → WorldStep old event new

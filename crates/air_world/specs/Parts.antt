@@ -1,4 +1,4 @@
--- What holds of each world between events, part by part, as a reader wants to know it.
+-- What is true of each world between events, part by part, as a reader wants to know it.
 use Rattle.std.specs.Prelude.{◌≡◌, ℕ, ◌<◌, ◌≤◌, List, ◌++◌, length, true, None, Some}
 use Rattle.std.specs.Prelude.{IfSome}
 use Rattle.px_base.specs.Octets.{IsFront}
@@ -33,7 +33,7 @@ abbrev pub OfCurrent : Party → (Attempt → ServerSide → Type 0) → Type 0
 OfCurrent party P = IfSome (newest party) (λ a. IfSome a.server (P a))
 
 -- No two tasks have one number. A task that has a number has a file; the number is below the next one, and its entry,
--- if it stands, is on the way to the file, or is it.
+-- if it is there, is on the way to the file, or is it.
 pub record AreNumbered (world : World) : Type 0 where
   pub distinct :
       (c task other that number : ℕ) (party others : Party) → PartyAt world c party → PartyAt world other others
@@ -67,8 +67,8 @@ abbrev pub DoOctetsFit : Attempt → ServerSide → Type 0
 DoOctetsFit a side =
     OctetsFit a.client.attempted.end side.connected.end × OctetsFit side.connected.end a.client.attempted.end
 
--- Where a session receives a file and its client has a task with that number, what is held and what waits are the
--- first octets of the task's file, and what the client has said behind them goes on with it.
+-- If a session receives a file and its client has a task with that number, what is held and what waits are the first
+-- octets of the task's file, and what the client has said after them goes on with it.
 pub record ReceivesFile
     (world : World) (party : Party) (a : Attempt) (side : ServerSide) (task number : ℕ) (rest : List ℕ)
     : Type 0 where
@@ -93,7 +93,7 @@ pub record AreInState (world : World) : Type 0 where
       → side.connected.state ≡ receiving number rest → HasNumber party task number
       → ReceivesFile world party a side task number rest))
 
--- The number isn't noted: no task has it, and the entry, if it stands, is the client's, of the upload's length, and
+-- The number isn't noted: no task has it, and the entry, if it is there, is the client's, of the upload's length, and
 -- holds nothing.
 pub record IsUnnoted (world : World) (party : Party) (number file_length : ℕ) : Type 0 where
   pub no_task : EachParty world (λ other. (task : ℕ) → ¬ HasNumber other task number)
@@ -127,7 +127,7 @@ AreToldComplete world =
     (λ party. EachSide party
     (λ _ side. (number : ℕ) → SaysComplete side number → IsCompleteIn world.server.store number))
 
--- an offered number is below the next one, and where its entry stands it holds at least the offset
+-- an offered number is below the next one, and if its entry is there it holds at least the offset
 abbrev pub AreOffered : World → Type 0
 AreOffered world = (number offset : ℕ) → Offered world number offset → IsOfferKept world.server.store number offset
 

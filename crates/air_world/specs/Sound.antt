@@ -1,4 +1,4 @@
--- What holds of each world between events, in a form that each event keeps.
+-- What is true of each world between events, in a form that each event keeps.
 use Rattle.std.specs.Prelude.{◌≡◌, ℕ, ◌≤◌, length, slice_get, true, Some}
 use Rattle.std.specs.List.{AllByRecursion}
 use Rattle.px_base.specs.CallSign.{IsCall}
@@ -82,7 +82,7 @@ AreGrantedOnce world =
     (c at other that number : ℕ) → GrantedAt world c at number → GrantedAt world other that number
     → (c ≡ other) × (at ≡ that)
 
--- One client: each of its attempts is so by itself, and what is between them, its notes and the store.
+-- One client: each of its attempts is so on its own, and what is between them, its notes and the store.
 pub record IsParty (world : World) (c : ℕ) (party : Party) : Type 0 where
   pub attempts : EachAttempt party (IsAttempt party.client.me party.client.server)
   pub windows : EachAttempt party (λ a. a.window ≡ party.client.window)

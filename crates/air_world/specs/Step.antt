@@ -1,5 +1,4 @@
--- What an event makes of the world where it isn't cut: one step of the server or of a client, whose frames are then
--- sent.
+-- What an event makes of the world if it isn't cut: one step of the server or of a client, whose frames are then sent.
 use Rattle.std.specs.Prelude.{◌≡◌, ℕ, List, [], ◌++◌, map, if◌then◌else◌}
 use Rattle.ax25_frames.specs.FrameText.{FrameValue}
 use Rattle.ftl0_session.specs.Uploads.Session.{is_same_call}

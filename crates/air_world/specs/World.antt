@@ -47,6 +47,6 @@ with_party world c party = record world { parties = slice_set world.parties c pa
 abbrev pub counted : World → World
 counted world = record world { events = suc world.events }
 
--- the moment of the next event: its number, from 1 on, as the clock's 32 bits tell it
+-- the moment of the next event: its number, from 1 on, as the clock's 32 bits give it
 abbrev pub next_moment : World → ℕ
 next_moment world = suc world.events % 2 ^ 32

@@ -17,8 +17,8 @@ pub fn server_hears_law()
     one_step_law();
 }
 
-/// What a frame makes of store and lists: what the session makes of it that hears it; and nothing, where it is a SABM
-/// or no session does.
+/// What a frame makes of store and lists: what the session makes of it that hears it; and nothing, if it is a SABM or
+/// no session does.
 pub fn heard_law()
     ensures { HeardLaw }
 {
@@ -48,7 +48,7 @@ pub fn heard_front_law()
     some_step_law();
 }
 
-/// Attempts stay attempts where their sessions are over, and where a transmission is marked as delivered.
+/// Attempts stay attempts if their sessions are over, and if a transmission is marked as delivered.
 pub fn left_law()
     ensures { LeftLaw }
 {}
@@ -58,7 +58,7 @@ pub fn front_law()
     ensures { FrontLaw }
 {}
 
-/// The attempts of a client go with it after each event that may come to it: an asking begins one, a frame and a tick
+/// The attempts of a client go with it after each event that may reach it: an asking begins one, a frame and a tick
 /// make the newest one go on, and a further SABM begins one with the same work (AX.25 2.0, 2.4.3.1; FTL0 1990).
 pub fn client_law()
     ensures { ClientLaw }

@@ -10,9 +10,9 @@ use ftl0_server::step_laws::caller_law;
 use ftl0_session::downloads::laws::stays_law;
 use ftl0_session::laws::{acknowledged_law, downloads_law, uploads_law};
 
-/// What a client's tasks, attempts and files have of the store stays: where its links went on without a packet, in a
-/// store that others' commands made, where its sessions are over or it starts again, and without an entry under way
-/// that no session receives.
+/// What a client's tasks, attempts and files have of the store stays: if its links went on without a packet, in a store
+/// that others' commands made, if its sessions are over or it starts again, and without an entry under way that no
+/// session receives.
 pub fn stay_law()
     ensures { StayLaw }
 {
@@ -20,13 +20,13 @@ pub fn stay_law()
     stays_law();
 }
 
-/// What begins has all that holds of a client: a client of which nothing was asked, an attempt, a session, a further
+/// What begins has all that is true of a client: a client of which nothing was asked, an attempt, a session, a further
 /// upload, and its task.
 pub fn begin_law()
     ensures { BeginLaw }
 {}
 
-/// A session that receives a file keeps its client's facts, packet by packet and behind each of a packet's commands:
+/// A session that receives a file keeps its client's facts, packet by packet and after each of a packet's commands:
 /// UPLOAD_CMD that it refuses, or that begins a file or goes on with one; DATA; and DATA_END, by which the whole file
 /// is kept.
 pub fn session_of_upload_law()
@@ -62,7 +62,7 @@ pub fn session_law()
     session_of_download_law();
 }
 
-/// Any entries of a job keep what holds of its client, also where its client starts again after some of its notes'
+/// Any entries of a job keep what is true of its client, also if its client starts again after some of its notes'
 /// commands.
 pub fn job_law()
     ensures { JobLaw }
@@ -70,8 +70,8 @@ pub fn job_law()
     promises_law();
 }
 
-/// Entries of a job leave the client's tasks as tasks of its uploads, also where the client starts again after some of
-/// its notes' commands: none of them begins a task.
+/// Entries of a job leave the client's tasks as tasks of its uploads, also if the client starts again after some of its
+/// notes' commands: none of them begins a task.
 pub fn job_tasks_law()
     ensures { JobTasksLaw }
 {}

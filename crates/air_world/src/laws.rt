@@ -64,7 +64,7 @@ pub fn removal_law()
     stays_law();
 }
 
-/// Where an event may come in a sound world there is a step.
+/// If an event may come in a sound world there is a step.
 pub fn existence_law()
     ensures { ExistenceLaw }
 {
@@ -72,8 +72,9 @@ pub fn existence_law()
     ftl0_server::step_laws::some_step_law();
 }
 
-/// What is promised holds also while the next event of a sound world is under way, in all that the power may leave: of
-/// a server's event in the store after the first so many of its commands, and of a client's with its notes after them.
+/// What is promised is true also while the next event of a sound world is under way, in all that the power may leave:
+/// of a server's event in the store after the first of its commands, for any number of them, and of a client's with its
+/// notes after them.
 pub fn prefixes_law()
     ensures { PrefixesLaw }
 {
@@ -83,16 +84,16 @@ pub fn prefixes_law()
     no_front_law();
 }
 
-/// The store of each next world follows from the one before, and so does what stands while an event is under way; what
-/// is promised stays in a store that follows.
+/// The store of each next world follows from the one before, and so does what is there while an event is under way;
+/// what is promised stays in a store that follows.
 pub fn stores_law()
     ensures { StoresLaw }
 {
     station_laws();
 }
 
-/// What is promised of uploads and downloads holds in each world of each lawful schedule, the first one too, and while
-/// the event behind it is under way, in all that the power may leave.
+/// What is promised of uploads and downloads is true in each world of each lawful schedule, the first one too, and
+/// while the event after it is under way, in all that the power may leave.
 pub fn schedule_law()
     ensures { ScheduleLaw }
 {
@@ -116,7 +117,7 @@ pub fn run_law()
     existence_law();
 }
 
-/// At an event that is to be cut each number of the event's commands may stand.
+/// At an event that is to be cut the first of the event's commands may be done, for any number of them.
 pub fn cuts_law()
     ensures { CutsLaw }
 {}

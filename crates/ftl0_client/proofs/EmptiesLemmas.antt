@@ -1,4 +1,5 @@
--- Each client comes to send nothing, by one list of frames; so each event has one step.
+-- Each client has nothing more to send after some list of frames, and there is only one such list; so each event has
+-- one step.
 use Rattle.std.proofs.Common.{◌≡◌, ◌⊎◌, ℕ, zero, suc, ◌<◌, ◌≤◌, List, [], ◌∷◌, Option, None, Some, refl, sym, ◌∙◌, ap}
 use Rattle.std.proofs.Common.{subst, inl, inr, arith}
 use Rattle.ftl0_client.proofs.Names.{same_Some, FrameValue, IsEnd, refusal_frame, Sending, next_sending, Window, left_to_send, next_sending-Sends, Attempted, AttemptState, with_end, Client, ClientHappened, ClientSends, Refused, sends_of_link, ClientState, IsAttemptOf, IsClient, LinkFits, Empties, happening, EndFits, MayStep, OneStepLaw, SomeStepLaw}

@@ -1,4 +1,4 @@
--- What stands of a client over events.
+-- What is true of a client over events.
 use Rattle.std.proofs.Common.{◌≡◌, ◌≢◌, ℕ, true, false, ◌==◌, List, [], ◌∷◌, ◌++◌, refl, sym, ◌∙◌, ap, ap₂, subst}
 use Rattle.std.specs.List.{AllByRecursion}
 use Rattle.ax25_link.specs.declared.state.LinkState.TheVariants as link
@@ -11,7 +11,7 @@ use Rattle.ftl0_client.specs.Outcomes.{outcome_by}
 use Rattle.ftl0_client.proofs.Names.{Option, None, Some, nat_lt, cond_both, same_Some, FrameValue, LinkState, Down, Why, with_timer_anew, Farewell, LinkEnd, Reply, outstanding, is_answered, refusal_frame, Sending, has_new, last_sending, later_sending, next_sending, sending_after, sends_again, sends_farewell, sends_new, sends_reply, with_piece, is_down, Window, NotesCommand, after_all, Lists, is_same_call, after_all-append, Ending, Work, EndPromises, WorkPromises, listing_of, Attempted, calling, outcome_of, ticking, with_end, AttemptStands, CallingLaw, QuietLaw, StandsLaw, Client, ClientEvent, ClientSends, Refused, asking, asks, hearing_by, hearing_stranger, hears, refusing, sends_by, sends_of_attempt, sends_of_link, ticking_by, ticks, with_attempt, ClientStep, Empties, happening, IsToldDownOf, KeepsOutcome}
 use Rattle.ftl0_client.proofs.OutcomeLemmas.{outcome-stays, stranger-attempt}
 
--- ---- what stands of the attempt, and of the client
+-- ---- what is true of the attempt, and of the client
 
 module _ (lists : Lists) (asked : Work) (listing : List ℕ) where
   of-job : (r : Outcome) → WorkPromises lists asked listing r → Promises lists asked listing (Some r)
@@ -165,7 +165,7 @@ event-lists client (hears frame) =
     (λ same. hearing-lists client frame client.attempt) (λ other. hearing-lists client frame None)
 event-lists client ticks = ticking-lists client client.attempt
 
--- a frame, where a tick has none
+-- a frame, in case a tick has none
 some_frame : Client → FrameValue
 some_frame client = refusal_frame client.me (record { to = client.server; poll = false })
 
@@ -201,7 +201,7 @@ step-lists : (client : Client) (event : ClientEvent) (noted : List NotesCommand)
 step-lists client event noted sent next step =
     (empties-kept (happening client event).after sent next step.sent).lists ∙ event-lists client event ∙ ap (after_all client.lists) (sym step.noted_is)
 
--- What events come to, from a client of which this stands on.
+-- What events lead to, from a client of which this is true.
 pub record Went (asked : Work) (client : Client) (commands : List NotesCommand) (now : Client) : Type 0 where
   pub lists : now.lists ≡ after_all client.lists commands
   pub stands : Stands asked now
@@ -226,7 +226,7 @@ module _ (law : StandsLaw) (asked : Work) where
         stands = rest.stands;
       }
 
--- ---- it is over only where something became of what was asked
+-- ---- it is over only if something became of what was asked
 
 down-state : (state : LinkState) → is_down state ≡ true → state ≡ Down
 down-state link.Down is = refl
@@ -260,7 +260,7 @@ goes-law law call base job events frames commands now new go_with nothing h =
 -- ---- once something became of it
 
 module _ (law : QuietLaw) (stays : of_attempts.OutcomeLaw) (asked : Work) (client : Client) (stands : Stands asked client) (done : outcome_by client.attempt ≢ None) where
-  -- what it has is told
+  -- what it has is reported
   told : IsToldDownOf client.attempt
   told = subst IsToldDownOf (sym stands.is_attempt) stands.told_down
 

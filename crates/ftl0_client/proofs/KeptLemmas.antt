@@ -42,7 +42,7 @@ module _ (lists : Lists) (server caller : CallSign) (name : List ℕ) (len : ℕ
   attempt-begun None goes = tt
   attempt-begun (Some attempt) goes = by-begun attempt.job.ending attempt.job.work goes
 
--- only where the disk failed a start reached it and answered no task
+-- only if the disk failed a start reached it and answered no task
 only-disk : (why : NotesRefusal) → IsTrue (start_reaches (Err why)) → IsErrOf {T = Begun} (Err why) refusal.Disk
 only-disk refusal.Disk reaches = refl
 only-disk refusal.Full reaches = absurd (cc reaches)

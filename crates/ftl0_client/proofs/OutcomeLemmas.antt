@@ -61,7 +61,7 @@ outcome-stays law client frame told = (by-same law client frame told (is_same_ca
 
 -- ---- it is noted
 
--- a job without an outcome came to none of these
+-- a job without an outcome ended with none of these
 none-acked : (down : Option Why) (number : ℕ) → attempted.outcome_by None down ≡ Some (outcome.Acked number) → ⊥
 none-acked None number is = cc is
 none-acked (Some why) number is = cc is
@@ -71,7 +71,7 @@ none-fetched None number is = cc is
 none-fetched (Some why) number is = cc is
 
 module _ (client : Client) (frame : FrameValue) (a : Attempted) (was : client.attempt ≡ Some a) (doing : Work) (job : a.job ≡ new_job doing) where
-  -- what a frame that another station sent came to
+  -- the outcome of a frame that another station sent
   other-outcome : outcome_by (hearing_stranger client frame).attempt ≡ attempted.outcome_by None a.down
   other-outcome =
       ap outcome_by (stranger-attempt client frame ∙ was) ∙ ap (λ (o : Option Ending). attempted.outcome_by o a.down) (ap (λ (j : JobState). j.ending) job)

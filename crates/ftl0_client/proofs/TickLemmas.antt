@@ -3,7 +3,7 @@ use Rattle.std.proofs.Common.{◌≡◌, refl, sym, subst}
 use Rattle.ftl0_client.specs.Attempt.AttemptState as attempted
 use Rattle.ftl0_client.proofs.Names.{Option, None, Some, Window, Attempted, AttemptState, IsAttempt, ticking, Client, client_ticking, ticking_by, ClientState, IsAttemptOf, IsClient}
 
--- the attempt of which the code's stands for one
+-- the attempt that the code's attempt stands for
 some-attempt : (w : Window) (attempt : AttemptState) (o : Option Attempted) → IsAttemptOf w (Some attempt) o → (a : Attempted) × (o ≡ Some a) × IsAttempt w attempt a
 some-attempt w attempt None is = absurd is
 some-attempt w attempt (Some a) is = (a, refl, is)

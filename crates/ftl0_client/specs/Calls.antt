@@ -41,14 +41,14 @@ HearsBy g client frame old new disk disk_now (Ok done) =
 HearsBy g client frame old new disk disk_now (Err why) = StopsBy g client frame old new disk disk_now why
 
 -- This frame was heard by a client that stands for this one. Since it came each image stands for the notes after the
--- first of the commands that the event has where nothing stops it, for some number of them.
+-- first of the commands that the event has if nothing stops it, for some number of them.
 pub record Hears {D : Type 0} (g : Ghosts D) (client : Client) (frame : FrameValue) (old new : ClientState)
     (disk disk_now : D) (result : Result ⊤ Halt) : Type 0 where
   pub by : HearsBy g client frame old new disk disk_now result
   pub since : Leaves g disk disk_now (λ _. MakesFirst client.lists (client_hearing client frame).noted)
 
--- What is handed out where this is sent next: nothing, and nothing changes; or the octets of its frame in place of
--- those that the buffer held. The client then stands for the one that has sent it.
+-- What is handed out if this is sent next: nothing, and nothing changes; or the octets of its frame instead of those
+-- that the buffer held. The client then stands for the one that has sent it.
 abbrev pub HandsOut : Option ClientSends → ClientState → ClientState → List ℕ → List ℕ → Bool → Type 0
 HandsOut None old new before now answer = (answer ≡ false) × (new ≡ old) × (now ≡ before)
 HandsOut (Some sends) old new before now answer =
@@ -65,7 +65,7 @@ pub record SameClient (old new : ClientState) : Type 0 where
   pub server : new.server ≡ old.server
   pub k : new.k ≡ old.k
 
--- the job, and what is told of it, are as they were
+-- the job, and what is reported of it, are as they were
 pub record SameJob (old new : AttemptState) : Type 0 where
   pub job : new.job ≡ old.job
   pub octets : new.octets ≡ old.octets

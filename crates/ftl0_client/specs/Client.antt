@@ -55,7 +55,7 @@ becoming client = record { after = client; noted = [] }
 abbrev pub with_attempt : Client → Attempted → Client
 with_attempt client a = record client { attempt = Some a }
 
--- Asking: a new attempt begins with a call to the server, in place of the one before.
+-- Asking: a new attempt begins with a call to the server, instead of the one before.
 abbrev pub asking : Client → JobState → Client
 asking client job = with_attempt client (calling client.me client.server job)
 
@@ -68,7 +68,7 @@ refusing client to final = record client { stray = Some (record { to = to; poll 
 abbrev pub hearing_stranger : Client → FrameValue → Client
 hearing_stranger client frame = if is_answered frame then refusing client frame.src frame.poll else client
 
--- the attempt that hears a frame: the last one, whatever became of it, where the frame is the server's
+-- the attempt that hears a frame: the last one, whatever became of it, if the frame is the server's
 abbrev pub attempt_for : Client → FrameValue → Option Attempted
 attempt_for client frame = if is_same_call frame.src client.server then client.attempt else None
 

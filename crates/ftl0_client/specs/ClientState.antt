@@ -27,7 +27,7 @@ pub record ClientState : Type 0 where
   pub attempt : Option AttemptState
   pub stray : Option Refused
 
--- there is an attempt where that one has one, and it stands for it
+-- there is an attempt if that one has one, and it stands for it
 abbrev pub IsAttemptOf : Window → Option AttemptState → Option Attempted → Type 0
 IsAttemptOf w None None = ⊤
 IsAttemptOf w None (Some a) = ⊥
@@ -86,7 +86,7 @@ attempt_closed (Some attempt) = is_closed attempt.link
 abbrev pub client_closed : ClientState → Bool
 client_closed self = not (is_there self.stray) && attempt_closed self.attempt
 
--- the octets of the list that came, where a list was asked last
+-- the octets of the list that came, if a list was asked last
 abbrev pub listing_in : Option AttemptState → List ℕ
 listing_in None = []
 listing_in (Some attempt) = listing_of attempt.job.work

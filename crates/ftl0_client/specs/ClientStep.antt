@@ -12,8 +12,8 @@ Empties client (frame ∷ frames) last =
     (sends : ClientSends) × (client_next client ≡ Some sends) × (frame ≡ sends.frame)
     × Empties sends.after frames last
 
--- What an event makes of a client, before it sends anything. Asking notes nothing: where an upload is of a fresh task,
--- the start of the task was noted before, by the call that gave it.
+-- What an event makes of a client, before it sends anything. Asking notes nothing: if an upload is of a fresh task, the
+-- start of the task was noted before, by the call that gave it.
 abbrev pub happening : Client → ClientEvent → ClientHappened
 happening client (asks job) = becoming (asking client job)
 happening client (hears frame) = client_hearing client frame

@@ -1,5 +1,5 @@
--- What a job does with a frame or a tick, packet by packet: each packet that it takes with the row that the notes
--- gave, and each packet that it queues of itself (FTL0 1990).
+-- What a job does with a frame or a tick, packet by packet: each packet that it takes with the row that the notes gave,
+-- and each packet that it queues without being asked (FTL0 1990).
 use Rattle.std.specs.Prelude.{◌≡◌, ◌≢◌, ℕ, zero, suc, List, [], ◌∷◌, ◌++◌, flat_map, nat_le, if◌then◌else◌}
 use Rattle.std.specs.Prelude.{Option, None, Some}
 use Rattle.ax25_frames.specs.FrameText.{FrameValue}
@@ -83,7 +83,7 @@ entries_taken lists a (item ∷ items) =
     let one : Happened = taking_one lists a item in
     entry_by a.job.ending lists a item ∷ entries_taken (after_all lists one.noted) one.after items
 
--- What is due is queued, one packet after another, while enough octets are free: so many of them at most.
+-- What is due is queued, one packet after another, while enough octets are free: this number of them at most.
 abbrev pub entries_due : ℕ → Attempted → List JobEntry
 entries_due zero a = []
 entries_due (suc more) a =
@@ -95,7 +95,7 @@ entries_due (suc more) a =
 abbrev pub entries_behind : Attempted → List JobEntry
 entries_behind a = if is_up a.end.state then entries_due (free_octets a.end) a else []
 
--- the attempt behind the packets of a frame from the server
+-- the attempt after the packets of a frame from the server
 abbrev pub after_packets : Window → Lists → Attempted → FrameValue → Attempted
 after_packets w lists a frame = (taking lists (after_hearing w a frame) (packets_heard w a frame)).after
 

@@ -1,4 +1,4 @@
--- How a client goes on over events, and what stands of it between them.
+-- How a client goes on over events, and what is true of it between them.
 use Rattle.std.specs.Prelude.{◌≡◌, ◌≢◌, ℕ, List, [], ◌∷◌, ◌++◌, Bool, true, Option, None, Some, ⊤}
 use Rattle.std.specs.List.{AllByRecursion}
 use Rattle.ax25_frames.specs.FrameText.{FrameValue}
@@ -19,7 +19,7 @@ use Rattle.ftl0_client.specs.Client.{Client, ClientEvent, asks, hears, ticks}
 use Rattle.ftl0_client.specs.ClientStep.{ClientStep}
 use Rattle.ftl0_client.specs.Outcomes.{outcome_by}
 
--- Over these events, one after another, the client comes from one to another: it sends these frames and notes these
+-- Over these events, one after another, the first client becomes the second: it sends these frames and notes these
 -- commands.
 abbrev pub GoesOver : Client → List ClientEvent → List FrameValue → List NotesCommand → Client → Type 0
 GoesOver client [] frames commands now = (frames ≡ []) × (commands ≡ []) × (now ≡ client)
@@ -50,8 +50,8 @@ Promises lists asked listing None = ⊤
 Promises lists asked listing (Some (LinkDown why)) = ⊤
 Promises lists asked listing (Some reached) = WorkPromises lists asked listing reached
 
--- What stands of a client of which this work was asked, at the end of each event: its attempt is of the same work, and
--- the notes go with its job; its end of the link is down where it went down before an outcome, and only where something
+-- What is true of a client of which this work was asked, at the end of each event: its attempt is of the same work, and
+-- the notes go with its job; its end of the link is down if it went down before an outcome, and only if something
 -- became of what was asked; and what became of it keeps what it promises, as the outcome of its job does.
 pub record Stands (asked : Work) (client : Client) : Type 0 where
   pub a : Attempted
@@ -64,13 +64,13 @@ pub record Stands (asked : Work) (client : Client) : Type 0 where
   pub ended : EndPromises client.lists asked (listing_of a.job.work) a.job.ending
   pub promises : Promises client.lists asked (listing_of a.job.work) (outcome_by client.attempt)
 
--- What a client that was asked for a job comes to over frames and ticks.
+-- What frames and ticks make of a client that was asked for a job.
 pub record Comes (base : Client) (job : JobState) (commands : List NotesCommand) (now : Client) : Type 0 where
   pub lists : now.lists ≡ after_all base.lists commands
   pub stands : Stands job.work now
   pub over : is_over now ≡ true → outcome_by now.attempt ≢ None
 
--- A client that is asked for a job that was just made, over notes that go with it, comes to this.
+-- Frames and ticks make this of a client that is asked for a job that was just made, over notes that go with it.
 abbrev pub GoesLaw : Type 0
 GoesLaw =
     (base : Client) (job : JobState) (events : List ClientEvent) (frames : List FrameValue)
@@ -86,7 +86,7 @@ SettledLaw =
     → AllByRecursion AsksNothing events → GoesOver old events frames commands now
     → (commands ≡ []) × (outcome_by now.attempt ≡ outcome_by old.attempt)
 
--- What became of what was asked stays, once anything did, over all frames and ticks behind that, whatever the notes are.
+-- What became of what was asked stays, once anything did, over all later frames and ticks, whatever the notes are.
 abbrev pub StaysLaw : Type 0
 StaysLaw =
     (base : Client) (job : JobState) (events others : List ClientEvent) (frames more : List FrameValue)

@@ -58,12 +58,12 @@ pub record HasStep (old : Client) (event : ClientEvent) : Type 0 where
 abbrev pub SomeStepLaw : Type 0
 SomeStepLaw = (old : Client) (event : ClientEvent) → MayStep old → HasStep old event
 
--- where it has it that the link went down before an outcome, the end of the attempt's link is down
+-- if it has it that the link went down before an outcome, the end of the attempt's link is down
 abbrev pub IsToldDownOf : Option Attempted → Type 0
 IsToldDownOf None = ⊤
 IsToldDownOf (Some a) = IsToldDown a
 
--- what became of what was asked, if anything did, is what became of it then; and nothing was asked where nothing was
+-- what became of what was asked, if anything did, is what became of it then; and nothing was asked if nothing was
 pub record KeepsOutcome (old new : Client) : Type 0 where
   pub down : IsToldDownOf new.attempt
   pub stays : outcome_by old.attempt ≢ None → outcome_by new.attempt ≡ outcome_by old.attempt
@@ -75,7 +75,7 @@ OutcomeLaw =
     (client : Client) (frame : FrameValue) → IsToldDownOf client.attempt
     → KeepsOutcome client (client_hearing client frame).after × KeepsOutcome client (client_ticking client)
 
--- The frame by which an upload of a task's file comes to the outcome that it was acknowledged has that noted.
+-- The frame by which an upload of a task's file reaches the outcome that it was acknowledged has that noted.
 abbrev pub AckedLaw : Type 0
 AckedLaw =
     (client : Client) (frame : FrameValue) (a : Attempted) (at : Upload) (number : ℕ)
@@ -83,7 +83,7 @@ AckedLaw =
     → outcome_by (client_hearing client frame).after.attempt ≡ Some (outcome.Acked number)
     → AcknowledgesIn client.lists at.task number (client_hearing client frame).noted
 
--- The frame by which a download comes to the outcome that its file was fetched leaves the file noted, without fault.
+-- The frame by which a download reaches the outcome that its file was fetched leaves the file noted, without fault.
 abbrev pub FetchedLaw : Type 0
 FetchedLaw =
     (client : Client) (frame : FrameValue) (a : Attempted) (at : Download) (number : ℕ)

@@ -40,7 +40,7 @@ use std::marker::Model;
 /// speak of the clients of the definitions that it stands for, whose links have all that was pushed, sent and taken.
 ///
 /// It keeps in memory the notes, with all octets that were got, and of what was asked last the file that is sent, once,
-/// or the list that came; of a download fewer than 512 octets beside the notes. Its link takes 4,096 octets.
+/// or the list that came; of a download fewer than 512 octets besides the notes. Its link takes 4,096 octets.
 #[derive(Drop)]
 pub struct Client {
     me: Call,
@@ -86,8 +86,8 @@ impl Client {
     /// with it ([`Notes::start`]), while nothing is under way. The upload of the file is then asked with the task and
     /// the number that are answered. Takes memory.
     ///
-    /// `Changed`: it is unfinished with another length or digest. `Full` comes exactly where a fresh task is wanted and
-    /// 65,536 stand. After `Disk` only `outcome`, `listing` and `notes` are called.
+    /// `Changed`: it is unfinished with another length or digest. `Full` comes exactly if a fresh task is wanted and
+    /// the notes have 65,536 tasks. After `Disk` only `outcome`, `listing` and `notes` are called.
     pub fn start_task<D: Disk>(
         &mut self,
         disk: &mut D,
@@ -129,7 +129,7 @@ impl Client {
     /// Asks for a job that was just made, while nothing is under way: an attempt begins, and SABM with P = 1 is pending
     /// (AX.25 2.0, 2.4.3.1). The link of the one before is gone. An upload is of a task of this client and its server
     /// that is unfinished, with the number that the notes have and a file of its length and digest (SHA-256, FIPS
-    /// 180-4), and a download is of this client's server. Takes memory, and fails only where there is none; nothing
+    /// 180-4), and a download is of this client's server. Takes memory, and fails only if there is none; nothing
     /// changes then.
     pub fn ask(&mut self, alloc: Global, job: Job) -> Result<(), OutOfMemory>
         requires free { IsFree self.old }
@@ -183,7 +183,7 @@ impl Client {
         }
     }
 
-    /// Counts a tick, while nothing is pending (AX.25 2.0, 2.4.7): where the server doesn't answer any more the link is
+    /// Counts a tick, while nothing is pending (AX.25 2.0, 2.4.7): if the server doesn't answer any more the link is
     /// down. Before anything was asked nothing is counted. Takes no memory.
     pub fn tick(&mut self)
         requires { client_pending self.old ≡ false }
@@ -196,7 +196,7 @@ impl Client {
     }
 
     /// Replaces `out` by the octets of the next pending frame, which is then sent: the DM to a station with which there
-    /// is no link first. It is false, and changes nothing, exactly where nothing is pending. Takes no memory.
+    /// is no link first. It is false, and changes nothing, exactly if nothing is pending. Takes no memory.
     pub fn next_out(&mut self, out: &mut ArrayVec<u8, 400>) -> bool
         ensures pending { result ≡ client_pending self.old }
         ensures none { result ≡ false → (self.new ≡ self.old) × (out.new.items ≡ out.old.items) }
@@ -243,7 +243,7 @@ impl Client {
     pub fn outcome(&self) -> Option<Outcome>
         ensures outcome { result ≡ outcome_in self.now.attempt }
 
-        // It is that of whichever client it stands for.
+        // It is that of each client that it stands for.
         ensures means { (client : ClientValue) → IsClient self.now client → result ≡ outcome_by client.attempt }
     {
         match &self.attempt {
@@ -257,7 +257,7 @@ impl Client {
     pub fn is_under_way(&self) -> bool
         ensures under_way { result ≡ under_way_in self.now.attempt }
 
-        // So it is with whichever client it stands for.
+        // The same is true of each client that it stands for.
         ensures means { (client : ClientValue) → IsClient self.now client → result ≡ is_under_way client.attempt }
     {
         match &self.attempt {
@@ -266,8 +266,8 @@ impl Client {
         }
     }
 
-    /// The octets of the list that came, where a list was asked last: short headers of 73 octets, one after another,
-    /// where the outcome is `Listed`; else none. Takes no memory.
+    /// The octets of the list that came, if a list was asked last: short headers of 73 octets, one after another, if
+    /// the outcome is `Listed`; else none. Takes no memory.
     pub fn listing(&self) -> &[u8]
         ensures { result.now ≡ listing_in self.now.attempt }
     {

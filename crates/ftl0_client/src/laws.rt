@@ -10,7 +10,7 @@ ghost use Rattle.ftl0_client.specs.Laws.{AckedLaw, FetchedLaw, OneStepLaw, Outco
 
 use crate::Client;
 
-/// A client comes to send nothing, after some list of frames, whatever was pushed and heard. Takes no memory.
+/// A client has nothing more to send after some list of frames, whatever was pushed and heard. Takes no memory.
 pub fn empties_law(client: &Client)
     ensures { (value : ClientValue) → IsClient client.now value →
         (frames : List FrameValue) × (last : ClientValue) × Empties value frames last }
@@ -36,7 +36,7 @@ pub fn outcome_law()
     crate::attempt::laws::outcome_law();
 }
 
-/// An upload comes to the outcome that its file was acknowledged only by a frame of which that is noted, in every image
+/// An upload reaches the outcome that its file was acknowledged only by a frame of which that is noted, in every image
 /// from the end of the event on.
 pub fn acked_law()
     ensures { AckedLaw }
@@ -44,7 +44,7 @@ pub fn acked_law()
     crate::attempt::laws::acked_law();
 }
 
-/// A download comes to the outcome that its file was fetched only by a frame after which the file's octets are noted,
+/// A download reaches the outcome that its file was fetched only by a frame after which the file's octets are noted,
 /// and have no fault.
 pub fn fetched_law()
     ensures { FetchedLaw }
@@ -52,8 +52,7 @@ pub fn fetched_law()
     crate::attempt::laws::fetched_law();
 }
 
-/// What a client comes to that was asked for a job, over frames and ticks: what stands of it, and what its outcome
-/// promises.
+/// What frames and ticks make of a client that was asked for a job: what is true of it, and what its outcome promises.
 pub fn goes_law()
     ensures { GoesLaw }
 {

@@ -22,8 +22,8 @@ pub fn hearing_law()
     ensures { HearingLaw }
 {}
 
-/// The commands of the notes that an event begins that stops at a packet, where the disk fails or memory is wanting,
-/// are the first of those that it has where nothing stops it.
+/// The commands of the notes that an event begins that stops at a packet, if the disk fails or there is no memory, are
+/// the first of those that it has if nothing stops it.
 pub fn front_of_event_law()
     ensures { FrontOfEventLaw }
 {}

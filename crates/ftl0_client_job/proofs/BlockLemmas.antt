@@ -17,7 +17,7 @@ block-left block octets few =
 
 -- ---- one Got a block
 
--- so many blocks, and then so many
+-- this number of blocks, and then that many more
 pub gots-add : (server : CallSign) (number m n : ℕ) (octets : List ℕ) → gots server number (m + n) octets ≡ gots server number m octets ++ gots server number n (drop (512 * m) octets)
 gots-add server number zero n octets = ap (λ (k : ℕ). gots server number k octets) (zero-add n)
 gots-add server number (suc m) n octets =
@@ -27,7 +27,7 @@ gots-add server number (suc m) n octets =
     ∙ ap (λ (commands : List NotesCommand). got server number (take 512 octets) ∷ commands)
     (gots-add server number m n (drop 512 octets) ∙ ap (λ (rest : List ℕ). gots server number m (drop 512 octets) ++ gots server number n rest) (drop-drop (512 * m) 512 octets ∙ ap (λ (k : ℕ). drop k octets) place))
 
--- what was got after so many blocks
+-- what was got after this number of blocks
 pub gots-after : (server : CallSign) (number n : ℕ) (octets : List ℕ) (lists : Lists) → got_of (after_all lists (gots server number n octets)) server number ≡ got_of lists server number ++ take (512 * n) octets
 gots-after server number zero octets lists = sym (append-nil (got_of lists server number))
 gots-after server number (suc n) octets lists =

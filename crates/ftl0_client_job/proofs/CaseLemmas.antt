@@ -1,4 +1,4 @@
--- The rows of the client's table, each once: what holds of each of them holds of what a packet gives.
+-- The rows of the client's table, each once: what is true of each of them is true of what a packet gives.
 use Rattle.std.proofs.Common.{◌≡◌, ℕ, ◌+◌, List, [], ◌∷◌, ◌++◌, Bool, true, false, length, refl}
 use Rattle.std.specs.Prelude.{◌==◌, if◌then◌else◌}
 use Rattle.ftl0_client_job.specs.declared.ending.Outcome.TheVariants as outcome
@@ -12,7 +12,7 @@ use Rattle.ftl0_client_job.proofs.Names.{nat_lt, Option, None, Some, PacketValue
 
 -- ---- uploads
 
--- it holds of each row of an upload that has come so far
+-- it is true of each row of an upload that has come so far
 pub record UploadRows (P : Row Upload → Type 0) (at : Upload) : Type 0 where
   pub strange_rows : (kind : ℕ) → P (strange at kind)
   pub login : at.phase ≡ upload_phase.Login → P (goes_on (upload.in_phase at upload_phase.Go) [] (upload_cmd at.known (length at.file) ∷ []))
@@ -65,7 +65,7 @@ module _ (P : Row Upload → Type 0) (at : Upload) (each : UploadRows P at) wher
 
 -- ---- lists
 
--- it holds of each row of a list that has come so far
+-- it is true of each row of a list that has come so far
 pub record DirectoryRows (P : Row Directory → Type 0) (at : Directory) : Type 0 where
   pub strange_rows : (kind : ℕ) → P (strange at kind)
   pub refused_rows : (code : ℕ) → P (ends at [] (outcome.Refused code))
@@ -123,7 +123,7 @@ module _ (P : Row Directory → Type 0) (at : Directory) (each : DirectoryRows P
 
 -- ---- downloads
 
--- it holds of each row of a download that has come so far, where these octets were noted
+-- it is true of each row of a download that has come so far, if these octets were noted
 pub record DownloadRows (P : Row Download → Type 0) (held : List ℕ) (at : Download) : Type 0 where
   pub strange_rows : (kind : ℕ) → P (strange at kind)
   pub refused_rows : (code : ℕ) → P (error_row at code)

@@ -25,7 +25,7 @@ both-true a b one other = rw (one, other) refl
 
 -- ---- the items
 
--- what begins with an item is that item and what is behind it
+-- what begins with an item is that item and what comes after it
 module _ (rule : MandatoryItem) (octets : List ℕ) (begins : begins_item rule octets ≡ true) where
   enough : item_len rule ≤ length octets
   enough = let test : nat_le (item_len rule) (length octets) ≡ true = first-of (nat_le (item_len rule) (length octets)) _ begins in grind (arith, nat_tests)
@@ -64,7 +64,7 @@ items-of (rule ∷ rules) octets is =
       item-front rule octets begins ∙ ap (λ (os : List ℕ). item_text one ++ os) rest.2 ∙ sym (append_assoc (item_text one) (items_text rest.0) end_item),
     )
 
--- an item begins what it stands before
+-- an item begins what it comes before
 module _ (rule : MandatoryItem) (one : ItemValue) (behind : List ℕ) (is : IsItemOf rule one) where
   text-len : length (item_text one) ≡ item_len rule
   text-len = let same = is.1 in omega (arith, same)

@@ -141,7 +141,7 @@ acked-now lists at number has is =
     ap (option_map (noted_as at.task)) (task-after lists at.task (λ t. record t { progress = progress.Acked }) has.entry has.is_entry)
     ∙ ap (λ (n : ℕ). Some (noted.Acked at.task n)) (has.number ∙ is)
 
--- since the first command, whatever comes behind it
+-- since the first command, whatever comes after it
 acked-in : (lists : Lists) (at : Upload) (number : ℕ) (row : Row Upload) → HasTask lists at → number_in at.phase at.known ≡ number → row.commands ≡ acked at.task ∷ [] → Acknowledges lists at.task number row
 acked-in lists at number row has is commands = record {
   commands = commands;
@@ -161,7 +161,7 @@ acked-in lists at number row has is commands = record {
           (AreAllowed-first count others (after lists (acked at.task)) allowed.1) (acked-now lists at number has is),
     )
 
--- a row that comes to this acknowledges
+-- a row that ends so acknowledges
 abbrev AcknowledgesBy : Lists → Upload → ℕ → Row Upload → Type 0
 AcknowledgesBy lists at number row = reached row ≡ Some (outcome.Acked number) → Acknowledges lists at.task number row
 
@@ -230,7 +230,7 @@ fetching lists at octets row here is none =
 abbrev IsFetched : List ℕ → Download → ℕ → Row Download → Type 0
 IsFetched held at number row = (number ≡ at.number) × (fault_code held ≡ None) × (row.commands ≡ [])
 
--- by a row that comes to this the file was fetched
+-- by a row that ends so the file was fetched
 abbrev FetchedBy : List ℕ → Download → ℕ → Row Download → Type 0
 FetchedBy held at number row = reached row ≡ Some (outcome.Fetched number) → IsFetched held at number row
 

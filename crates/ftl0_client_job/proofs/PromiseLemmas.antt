@@ -1,4 +1,4 @@
--- What stands of a job of which some work was asked, after each packet.
+-- What is true of a job of which some work was asked, after each packet.
 use Rattle.std.proofs.Common.{◌≡◌, ℕ, List, [], ◌∷◌, ◌++◌, Bool, true, false, length, take, drop, refl, sym, ◌∙◌, ap, subst}
 use Rattle.std.specs.Prelude.{◌==◌, if◌then◌else◌}
 use Rattle.ftl0_client_job.specs.declared.ending.Outcome.{Outcome}
@@ -62,7 +62,7 @@ directory-kept lists at packet empty = directory-rows (DirectoryKept lists at) a
       whole = λ are. (refl, empty, are);
     }
 
--- where it ended so, that is promised
+-- if it ended so, that is promised
 of-listed : (lists : Lists) (at : Directory) (listing : List ℕ) (o : Option Ending) → option_map (λ (ending : Ending). ending.outcome) o ≡ Some outcome.Listed → EndPromises lists (work.Directory at) listing o
     → are_short_headers listing ≡ true
 of-listed lists at listing None is keeps = absurd (cc is)

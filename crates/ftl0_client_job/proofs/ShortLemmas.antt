@@ -3,7 +3,7 @@ use Rattle.std.proofs.Common.{◌≡◌, ℕ, suc, ◌+◌, ◌-◌, ◌*◌, �
 use Rattle.std.specs.Prelude.{◌&&◌, ◌==◌}
 use Rattle.ftl0_client_job.proofs.Names.{take_all, bytes_eq, end_item, MandatoryItem, are_headers, are_items, begins_item, is_short_header, item_len, short_len}
 
--- all of what is left behind a place
+-- all of what is left from a place on
 pub rest-is : (octets : List ℕ) (count : ℕ) → take (length octets - count) (drop count octets) ≡ drop count octets
 rest-is octets count = take_all (length octets - count) (drop count octets) (omega (arith, length-drop count octets))
 
@@ -27,7 +27,7 @@ items-on rules i rule d left within is begins = sym (items-step rules i rule d l
 pub items-none : (rules : List MandatoryItem) (i : ℕ) (rule d : MandatoryItem) (left : List ℕ) → i < length rules → rule ≡ get_or rules i d → begins_item rule left ≡ false → are_items (drop i rules) left ≡ false
 items-none rules i rule d left within is begins = items-step rules i rule d left within is ∙ ap (λ (b : Bool). b && are_items (drop (i + 1) rules) (drop (item_len rule) left)) begins
 
--- so many headers: one, and the others
+-- this number of headers: one, and the others
 pub headers-step : (n i : ℕ) (left : List ℕ) → i < n → are_headers (n - i) left ≡ (is_short_header (take short_len left) && are_headers (n - (i + 1)) (drop short_len left))
 unfolding are_headers
 headers-step n i left within =

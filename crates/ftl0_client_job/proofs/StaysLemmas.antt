@@ -19,7 +19,7 @@ pub both-right : (a b : Bool) → IsTrue (a && b) → IsTrue b
 both-right true b ok = ok
 both-right false b ok = absurd (cc ok)
 
--- its file may be sent, and its number is noted where it is new
+-- its file may be sent, and its number is noted if it is new
 go-noted : (lists : Lists) (at : Upload) (number offset : ℕ) → at.phase ≡ upload_phase.Go → HasTask lists at → IsTrue (may_go at number offset)
     → HasTask (after_all lists (number_commands at number)) (upload.in_phase at (upload_phase.Sending number offset))
 go-noted lists at number offset is has may = by (is_new at) refl may

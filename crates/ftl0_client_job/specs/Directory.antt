@@ -1,4 +1,4 @@
--- The list of the files that a selection holds of (FTL0 1990, directories and selections): its states, and its rows of
+-- The list of the files that a selection matches (FTL0 1990, directories and selections): its states, and its rows of
 -- the client's table.
 use Rattle.std.specs.Prelude.{ℕ, ◌==◌, List, [], ◌∷◌, ◌++◌, length, nat_lt, Bool, ◌||◌, if◌then◌else◌}
 use Rattle.ftl0_packets.specs.ErrorCodes.{octet_of}
@@ -22,7 +22,7 @@ pub record Directory : Type 0 where
 abbrev pub in_phase : Directory → DirectoryPhase → Directory
 in_phase directory now = record directory { phase = now }
 
--- with these octets behind those that came
+-- with these octets after those that came
 abbrev pub with_octets : Directory → List ℕ → Directory
 with_octets directory octets = record directory { listing = directory.listing ++ octets }
 
@@ -32,7 +32,7 @@ login_row directory (login_resp moment flags) =
     goes_on (in_phase directory phase.Selecting) [] (select_cmd directory.tokens ∷ [])
 login_row directory packet = strange directory (kind_of packet)
 
--- Selecting, SELECT_RESP: where the selection holds of no file the list is whole; else its first headers are asked for.
+-- Selecting, SELECT_RESP: if the selection matches no file the list is whole; else its first headers are asked for.
 abbrev pub select_resp_row : Directory → ℕ → Row Directory
 select_resp_row directory count =
     if count == 0 then ends directory [] outcome.Listed
@@ -47,7 +47,7 @@ selecting_row directory packet = strange directory (kind_of packet)
 abbrev pub longest_listing : ℕ
 longest_listing = 74752
 
--- Listing, DATA: its octets come behind the others, up to so many of them.
+-- Listing, DATA: its octets are appended to the others, up to the most that a list may have.
 abbrev pub data_row : Directory → List ℕ → Row Directory
 data_row directory octets =
     if nat_lt longest_listing (length (directory.listing ++ octets)) then strange directory 0

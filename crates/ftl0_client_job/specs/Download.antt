@@ -43,12 +43,12 @@ whole_gots server number octets = gots server number (length octets / 512) octet
 abbrev pub unnoted : List ℕ → List ℕ
 unnoted octets = drop (512 * (length octets / 512)) octets
 
--- the last Got, of the octets that are left, where there are any
+-- the last Got, of the octets that are left, if there are any
 abbrev pub last_got : CallSign → ℕ → List ℕ → List NotesCommand
 last_got server number [] = []
 last_got server number (octet ∷ octets) = got server number (octet ∷ octets) ∷ []
 
--- Login: LOGIN_RESP brings DOWNLOAD_CMD for the octets behind those that were got.
+-- Login: LOGIN_RESP brings DOWNLOAD_CMD for the octets after those that were got.
 abbrev pub login_row : List ℕ → Download → PacketValue → Row Download
 login_row held download (login_resp moment flags) =
     goes_on (in_phase (with_rest download []) phase.Fetching) [] (download_cmd download.number (length held) 0 ∷ [])
@@ -76,7 +76,7 @@ whole_row download (Some code) =
 abbrev pub data_end_row : List ℕ → Download → Row Download
 data_end_row held download = whole_row download (fault_code (held ++ download.rest))
 
--- Fetching, DL_ERROR_RESP: the download is refused; where the offset was above the file's length, code 2, what was got is
+-- Fetching, DL_ERROR_RESP: the download is refused; if the offset was above the file's length, code 2, what was got is
 -- given up.
 abbrev pub error_row : Download → ℕ → Row Download
 error_row download code =
@@ -103,6 +103,6 @@ row_in phase.Done held download packet = done_row download packet
 abbrev pub new_download : CallSign → ℕ → Download
 new_download server number = record { server = server; number = number; rest = []; phase = phase.Login }
 
--- what a packet gives to a download, where these octets were got and noted
+-- what a packet gives to a download, if these octets were got and noted
 unfoldable pub download_row : List ℕ → Download → PacketValue → Row Download
 download_row held download packet = row_in download.phase held download packet

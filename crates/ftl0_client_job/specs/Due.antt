@@ -1,4 +1,5 @@
--- What a job sends of itself, one packet after another (FTL0 1990, uploading): DATA of the file, then DATA_END.
+-- What a job sends without being asked, one packet after another (FTL0 1990, uploading): DATA of the file, then
+-- DATA_END.
 use Rattle.std.specs.Prelude.{◌≡◌, ℕ, ◌+◌, ◌-◌, ◌==◌, min, List, length, take, drop, Bool, true, false, if◌then◌else◌}
 use Rattle.std.specs.Prelude.{Option, None, Some}
 use Rattle.std.specs.Option.{option_map}
@@ -20,12 +21,12 @@ pub record DuePacket (S : Type 0) : Type 0 where
 abbrev pub most_data : ℕ
 most_data = 254
 
--- the place behind the next DATA
+-- the place after the next DATA
 abbrev pub place_after : Upload → ℕ → ℕ
 place_after at place = place + min most_data (length at.file - place)
 
--- While octets are left from this place on, DATA of the next 254, the last one shorter; then DATA_END, and the word on
--- the file is waited for.
+-- While octets are left from this place on, DATA of the next 254, the last one shorter; then DATA_END, and it waits for
+-- UL_ACK_RESP or UL_NAK_RESP.
 abbrev pub due_from : Upload → ℕ → ℕ → DuePacket Upload
 due_from at number place =
     if length (drop place at.file) == 0 then record { packet = data_end; state = in_phase at (phase.Ack number) }

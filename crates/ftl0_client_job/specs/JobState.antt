@@ -70,7 +70,7 @@ IsCheckedIn fetch.Login held = ⊤
 IsCheckedIn fetch.Fetching held = ⊤
 IsCheckedIn fetch.Done held = fault_code held ≡ None
 
--- the octets got of a file, and these behind them, are no more than a file may have
+-- the octets got of a file, and these after them, are no more than a file may have
 abbrev pub FitsBehind : Lists → CallSign → ℕ → List ℕ → Type 0
 FitsBehind lists server number octets = length (got_of lists server number) + length octets ≤ longest_file
 

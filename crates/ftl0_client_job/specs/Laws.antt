@@ -75,7 +75,7 @@ OwnedLaw {D} g =
     (fresh_task old.lists server caller name file_length digest))
     → IsOwned new.lists server caller digest given
 
--- what a row comes to, where it ends the job
+-- how a row ends the job, if it does
 abbrev pub reached : {S : Type 0} → Row S → Option Outcome
 reached row = option_map (λ ending. ending.outcome) row.ending
 
@@ -84,8 +84,8 @@ abbrev pub IsAckedIn : ℕ → ℕ → List ℕ → Type 0
 IsAckedIn task number image =
     (now : Lists) × StandsFor image now × (noted_at now task ≡ Some (noted.Acked task number))
 
--- The row notes that the task was acknowledged, and nothing else. In each image that stands for the notes after at least
--- that command, whatever commands come behind it, it was, with this number.
+-- The row notes that the task was acknowledged, and nothing else. In each image that stands for the notes after at
+-- least that command, whatever commands come after it, it was, with this number.
 pub record Acknowledges {S : Type 0} (lists : Lists) (task number : ℕ) (row : Row S) : Type 0 where
   pub commands : row.commands ≡ acked task ∷ []
   pub stands :
@@ -99,7 +99,7 @@ AcknowledgedLaw =
     → reached (upload_row at packet) ≡ Some (outcome.Acked number)
     → Acknowledges lists at.task number (upload_row at packet)
 
--- A file that is continued is sent from the offset that UL_GO_RESP gave: the state is Sending from there, and, where
+-- A file that is continued is sent from the offset that UL_GO_RESP gave: the state is Sending from there, and, if
 -- octets are left, the first that is due is DATA of the octets from there on.
 abbrev pub ContinuedLaw : Type 0
 ContinuedLaw =
@@ -111,13 +111,13 @@ ContinuedLaw =
       state = in_phase at (phase.Sending number (place_after at offset));
     }))
 
--- A download goes on behind the octets that were got: DOWNLOAD_CMD asks for them.
+-- A download continues after the octets that were got: DOWNLOAD_CMD asks for the octets from there on.
 abbrev pub ResumedLaw : Type 0
 ResumedLaw =
     (held : List ℕ) (at : Download) (moment flags : ℕ) → at.phase ≡ fetch.Login
     → (download_row held at (login_resp moment flags)).replies ≡ download_cmd at.number (length held) 0 ∷ []
 
--- While a file's octets come, those noted and those not noted yet are those before, and these behind them.
+-- While a file's octets come, those noted and those not noted yet are those before, and these after them.
 abbrev pub FetchingLaw : Type 0
 FetchingLaw =
     (lists : Lists) (at : Download) (octets : List ℕ) (row : Row Download) → at.phase ≡ fetch.Fetching
@@ -133,7 +133,7 @@ FetchedLaw =
     → (number ≡ at.number) × (fault_code (got_of lists at.server at.number) ≡ None)
     × ((download_row (got_of lists at.server at.number) at packet).commands ≡ [])
 
--- A list has no octets before headers come, and its outcome is that it is whole only where its octets are whole short
+-- A list has no octets before headers come, and its outcome is that it is whole only if its octets are whole short
 -- headers, one after another.
 abbrev pub ListedLaw : Type 0
 ListedLaw =
@@ -142,24 +142,24 @@ ListedLaw =
     × (reached (directory_row at packet) ≡ Some outcome.Listed
     → are_short_headers (directory_row at packet).state.listing ≡ true)
 
--- What stands of a job that was just made, over notes that go with it.
+-- What is true of a job that was just made, over notes that go with it.
 abbrev pub BegunLaw : Type 0
 BegunLaw = (lists : Lists) (job : JobState) → IsNew job → NotesGoWith lists job → JobStands job.work lists job
 
--- What stands of a job before a packet stands of it after the packet's row: in whatever it ends, it ends so of what was
--- asked, and keeps what that promises.
+-- What is true of a job before a packet is true of it after the packet's row: in whatever it ends, it ends so of what
+-- was asked, and keeps what that promises.
 abbrev pub PromisesLaw : Type 0
 PromisesLaw =
     (asked : Work) (lists : Lists) (job : JobState) (item : Item) → JobStands asked lists job
     → JobStands asked (after_all lists (job_row lists job item).commands) (job_after (job_row lists job item))
 
--- What stands of a job stands of it once what was due was sent.
+-- What is true of a job is true of it once what was due was sent.
 abbrev pub DueLaw : Type 0
 DueLaw =
     (asked : Work) (lists : Lists) (job : JobState) (due : DuePacket JobState) → JobStands asked lists job
     → next_due job ≡ Some due → JobStands asked lists due.state
 
--- Octets are a short header exactly where they are the header with an item of each mandatory rule, in order.
+-- Octets are a short header exactly if they are the header with an item of each mandatory rule, in order.
 abbrev pub ShortLaw : Type 0
 ShortLaw =
     (octets : List ℕ) → (is_short_header octets ≡ true → IsShortText octets)

@@ -11,7 +11,7 @@ use Rattle.client_notes.specs.State.{IsReady, NotesState}
 use Rattle.disk_model.specs.declared.halt.Halt.{Halt}
 use Rattle.disk_model.specs.declared.halt.Halt.TheVariants as stop
 
--- so many of these commands are done, and one is still to be, where there are any
+-- this number of these commands is done, and one is still to be, if there are any
 abbrev pub IsBefore : ℕ → List NotesCommand → Type 0
 IsBefore count [] = count ≡ 0
 IsBefore count (command ∷ commands) = count < length (command ∷ commands)

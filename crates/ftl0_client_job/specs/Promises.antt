@@ -1,4 +1,4 @@
--- What the outcomes of a job promise, and what stays of it while packets come.
+-- What the outcomes of a job promise, and what stays true of it while packets come.
 use Rattle.std.specs.Prelude.{◌≡◌, ℕ, List, [], true, Option, None, Some, ⊤}
 use Rattle.px_base.specs.CallSign.{CallSign}
 use Rattle.pfh_items.specs.Faults.{fault_code}
@@ -61,8 +61,8 @@ DownloadPromises lists server asked outcome.Listed = ⊥
 DownloadPromises lists server asked (outcome.LinkDown why) = ⊥
 DownloadPromises lists server asked (outcome.Strange kind) = ⊤
 
--- What an outcome of this work promises, by the notes and the list that came. No work comes to another's outcome, and
--- none to that of a link.
+-- What an outcome of this work promises, by the notes and the list that came. No work ends with another's outcome, and
+-- none with that of a link.
 abbrev pub WorkPromises : Lists → Work → List ℕ → Outcome → Type 0
 WorkPromises lists (work.Upload at) listing reached = UploadPromises lists at.task reached
 WorkPromises lists (work.Directory at) listing reached = ListPromises listing reached
@@ -85,7 +85,7 @@ IsFilled (work.Upload at) = ⊤
 IsFilled (work.Directory at) = IsEmptyBefore at.phase at.listing
 IsFilled (work.Download at) = ⊤
 
--- What stands of a job of which this work was asked, over these notes, after each packet.
+-- What is true of a job of which this work was asked, over these notes, after each packet.
 pub record JobStands (asked : Work) (lists : Lists) (job : JobState) : Type 0 where
   pub same : IsOfSame asked job.work
   pub go_with : NotesGoWith lists job

@@ -6,7 +6,7 @@ use Rattle.ftl0_client_job.specs.declared.ending.Ending.{Ending}
 use Rattle.ftl0_client_job.specs.declared.ending.Outcome.{Outcome}
 use Rattle.ftl0_client_job.specs.declared.ending.Outcome.TheVariants as outcome
 
--- The state after it, the notes' commands and the replies, in order; and how the job ends, where it does.
+-- The state after it, the notes' commands and the replies, in order; and how the job ends, if it does.
 pub record Row (S : Type 0) : Type 0 where
   pub state : S
   pub commands : List NotesCommand

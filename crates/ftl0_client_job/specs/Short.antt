@@ -32,7 +32,7 @@ are_items (rule ∷ rules) octets = begins_item rule octets && are_items rules (
 abbrev pub is_short_header : List ℕ → Bool
 is_short_header octets = bytes_eq (take 2 octets) header_start && are_items mandatory_items (drop 2 octets)
 
--- whether the octets are so many short headers, one after another
+-- whether the octets are this number of short headers, one after another
 unfoldable pub are_headers : ℕ → List ℕ → Bool
 are_headers zero octets = length octets == 0
 are_headers (suc n) octets = is_short_header (take short_len octets) && are_headers n (drop short_len octets)

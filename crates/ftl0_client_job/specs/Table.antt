@@ -58,7 +58,7 @@ takes_memory (work.Upload at) = false
 takes_memory (work.Directory at) = true
 takes_memory (work.Download at) = true
 
--- the octets of the list that came, where the job is one
+-- the octets of the list that came, if the job is one
 abbrev pub listing_of : Work → List ℕ
 listing_of (work.Upload at) = []
 listing_of (work.Directory at) = at.listing

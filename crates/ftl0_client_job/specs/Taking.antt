@@ -17,7 +17,7 @@ use Rattle.ftl0_client_job.specs.Table.{JobState, job_row, takes_memory}
 abbrev pub Gives : {S : Type 0} → Row S → S → List ℕ → Option Ending → Type 0
 Gives row now replies ending = (now ≡ row.state) × (replies ≡ texts row.replies) × (ending ≡ row.ending)
 
--- a state, the notes beside it, and the disk that they stand on
+-- a state, the notes that go with it, and the disk that they are on
 pub record WithNotes (S D : Type 0) : Type 0 where
   pub state : S
   pub notes : NotesState
@@ -54,13 +54,13 @@ abbrev pub JobAnswers : Row Work → JobState → JobState → List ℕ → Resu
 JobAnswers row before now replies (Ok done) = Gives row now.work replies now.ending
 JobAnswers row before now replies (Err why) = (now ≡ before) × (replies ≡ [])
 
--- memory was wanting where it is taken
+-- there was no memory, and the job takes some
 abbrev pub StopsAt : {T : Type 0} → Work → Result T Halt → Type 0
 StopsAt doing (Ok done) = ⊤
 StopsAt doing (Err stop.Disk) = ⊤
 StopsAt doing (Err stop.OutOfMemory) = IsTrue (takes_memory doing)
 
--- the row of a packet over the notes beside a job
+-- the row of a packet over the notes that go with a job
 abbrev pub row_over : {D : Type 0} → WithNotes JobState D → Item → Row Work
 row_over before item = job_row before.notes.lists before.state item
 

@@ -11,8 +11,8 @@ use Rattle.ftl0_client_job.specs.declared.phases.UploadPhase.TheVariants as phas
 use Rattle.ftl0_client_job.specs.Row.{Row, ends, ends_later, goes_on, strange}
 
 -- The upload of a task's file, whose number on the server is known, or 0 as long as none is; and how far it has come:
--- LOGIN_RESP is waited for; or UL_GO_RESP; or the file, which has this number, is sent from this place on; or the word
--- on the file of this number is waited for.
+-- LOGIN_RESP is waited for; or UL_GO_RESP; or the file, which has this number, is sent from this place on; or
+-- UL_ACK_RESP or UL_NAK_RESP for the file of this number is waited for.
 pub record Upload : Type 0 where
   pub task : ℕ
   pub known : ℕ
@@ -45,15 +45,15 @@ go_resp_row upload number offset =
     then goes_on (in_phase upload (phase.Sending number offset)) (number_commands upload number) []
     else strange upload 4
 
--- a refusal of a task's file with this code is noted, but for a fault of the server's disk
+-- a refusal of a task's file with this code is noted, except for a fault of the server's disk
 abbrev pub refusal_of : ℕ → ℕ → List NotesCommand
 refusal_of task code = if code == octet_of error.ServerFsys then [] else refused task code ∷ []
 
--- whether this code tells of a file that is continued that it is complete
+-- whether this code says of a file that is continued that it is complete
 abbrev pub is_complete : Upload → ℕ → Bool
 is_complete upload code = not (is_new upload) && (code == octet_of error.FileComplete)
 
--- Go, UL_ERROR_RESP: the file is refused, but where it is complete already.
+-- Go, UL_ERROR_RESP: the file is refused, unless it is complete already.
 abbrev pub error_row : Upload → ℕ → Row Upload
 error_row upload code =
     if is_complete upload code then ends upload (acked upload.task ∷ []) (outcome.Acked upload.known)

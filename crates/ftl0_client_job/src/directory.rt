@@ -1,4 +1,4 @@
-//! The list of the files that a selection holds of: what each packet gives to it (FTL0 1990, directories and
+//! The list of the files that a selection matches: what each packet gives to it (FTL0 1990, directories and
 //! selections).
 
 ghost use Rattle.std.specs.Prelude.{◌≡◌, ◌≤◌, [], length, Ok};
@@ -65,7 +65,7 @@ impl Directory {
         self.listing.as_slice()
     }
 
-    /// Takes a packet: its row. Want of memory changes nothing. Takes memory.
+    /// Takes a packet: its row. If there is no memory nothing changes. Takes memory.
     pub(crate) fn take(
         &mut self,
         packet: &Packet<'_>,
@@ -106,7 +106,7 @@ impl Directory {
         }
     }
 
-    /// Selecting, SELECT_RESP: the first headers are asked for, where there are any.
+    /// Selecting, SELECT_RESP: the first headers are asked for, if there are any.
     fn begin(&mut self, count: u16, replies: &mut Replies) -> Option<Ending>
         requires { replies.old.items ≡ [] }
         ensures { Answers (select_resp_row self.old count) self.old self.new replies.new.items (Ok result) }

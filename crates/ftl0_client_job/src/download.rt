@@ -86,7 +86,7 @@ impl Download {
         }
     }
 
-    /// Login: LOGIN_RESP. The octets behind those that were got are asked for.
+    /// Login: LOGIN_RESP. The octets after those that were got are asked for.
     fn take_login(
         &mut self,
         packet: &Packet<'_>,
@@ -250,7 +250,7 @@ fn fill_block<'a>(block: &mut Block, octets: &'a [u8]) -> &'a [u8]
     &octets[count..]
 }
 
-/// Notes the octets that wait, fewer than 512, where there are any. Takes memory.
+/// Notes the octets that wait, fewer than 512, if there are any. Takes memory.
 fn note_rest<D: Disk>(
     disk: &mut D,
     notes: &mut Notes,

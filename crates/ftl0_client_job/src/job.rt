@@ -62,7 +62,7 @@ impl Job {
         }
     }
 
-    /// The list of the files that the selection of these tokens, at most 2,047 octets, holds of. Takes no memory yet.
+    /// The list of the files that the selection of these tokens, at most 2,047 octets, matches. Takes no memory yet.
     pub fn list(alloc: Global, tokens: FileBytes) -> Job
         requires { length tokens ≤ 2047 }
         ensures { result ≡ new_job (work.Directory (new_directory tokens)) }
@@ -73,7 +73,7 @@ impl Job {
         }
     }
 
-    /// The download of the file of this number, which isn't 0, of this server, behind the octets that the notes have.
+    /// The download of the file of this number, which isn't 0, of this server, after the octets that the notes have.
     /// Takes no memory.
     pub fn download(server: Call, number: FileNumber) -> Job
         requires { 1 ≤ number }
@@ -87,7 +87,7 @@ impl Job {
 
     /// Takes a packet: its row of the client's table. What the row notes is on the disk before its replies are given. A
     /// packet that has no row in the state, or is malformed, is strange; one that comes after the outcome changes
-    /// nothing. Takes memory, but for an upload.
+    /// nothing. Takes memory, except for an upload.
     ///
     /// A stop leaves the job as it was, and gives no reply. After `Disk` the commands before the one in which the disk
     /// failed are noted, and that one may be. After `OutOfMemory`, which an upload never meets, the commands before the
@@ -118,16 +118,15 @@ impl Job {
     }
 
     /// The reply to a packet of this type didn't fit the link: that is strange, whatever the packet's row gave, and
-    /// nothing of the reply is sent. What the row noted stands. Takes no memory.
+    /// nothing of the reply is sent. What the row noted stays noted. Takes no memory.
     pub fn lose_reply(&mut self, kind: u8)
         ensures { self.new ≡ record self.old { ending = Some (at_once (Outcome.Strange kind)) } }
     {
         self.ending = Some(strange(kind));
     }
 
-    /// Puts what is due next in place of what `out` holds: DATA of the next 254 octets of the file, the last one shorter,
-    /// or DATA_END where none is left. It answers false, and nothing changed, exactly where nothing is due. Takes no
-    /// memory.
+    /// Replaces what `out` has by what is due next: DATA of the next 254 octets of the file, the last one shorter, or
+    /// DATA_END if none is left. It answers false, and nothing changed, exactly if nothing is due. Takes no memory.
     pub fn fill(&mut self, out: &mut ArrayVec<u8, 256>) -> bool
         ensures puts { PutsDue (next_due self.old) result self.old self.new out.old.items out.new.items }
         ensures notes_are { (lists : Lists) → NotesGoWith lists self.old → NotesGoWith lists self.new }
@@ -152,7 +151,7 @@ impl Job {
         Some(self.ending?.outcome)
     }
 
-    /// The octets of the list that came: short headers of 73 octets, one after another, where the outcome is `Listed`;
+    /// The octets of the list that came: short headers of 73 octets, one after another, if the outcome is `Listed`;
     /// none of any other job. Takes no memory.
     pub fn listing(&self) -> &[u8]
         ensures { result.now ≡ listing_of self.now.work }

@@ -21,13 +21,13 @@ pub fn owned_law<D: Disk>()
     ensures { OwnedLaw D.Disk }
 {}
 
-/// An upload whose outcome is that its file was acknowledged noted that, and so it stands from then on.
+/// An upload whose outcome is that its file was acknowledged noted that, and it stays noted from then on.
 pub fn acknowledged_law()
     ensures { AcknowledgedLaw }
 {}
 
-/// An upload that is continued is sent from the offset that the server gave, and a download behind the octets that the
-/// notes have.
+/// An upload that is continued is sent from the offset that the server gave, and a download from the end of the octets
+/// that the notes have.
 pub fn continued_law()
     ensures upload { ContinuedLaw }
     ensures download { ResumedLaw }
@@ -40,19 +40,19 @@ pub fn fetched_law()
     ensures whole { FetchedLaw }
 {}
 
-/// A list is whole only where its octets are whole short headers, one after another.
+/// A list is whole only if its octets are whole short headers, one after another.
 pub fn listed_law()
     ensures { ListedLaw }
 {}
 
-/// Octets are a short header exactly where they are a header of the mandatory items alone, in ascending order (PFH
-/// 1990, mandatory header; FTL0 1990, short directory).
+/// Octets are a short header exactly if they are a header of the mandatory items alone, in ascending order (PFH 1990,
+/// mandatory header; FTL0 1990, short directory).
 pub fn short_law()
     ensures { ShortLaw }
 {}
 
-/// What stands of a job that was just made stands after each packet, and once what was due was sent: it is of the work
-/// that was asked, and its outcome keeps what it promises.
+/// What is true of a job that was just made is true after each packet, and once what was due was sent: it is of the
+/// work that was asked, and its outcome keeps what it promises.
 pub fn promises_law()
     ensures begun { BegunLaw }
     ensures packet { PromisesLaw }

@@ -1,4 +1,4 @@
-//! The job of a client (FTL0 1990): the upload of a file, a list of the files that a selection holds of, or the download
+//! The job of a client (FTL0 1990): the upload of a file, a list of the files that a selection matches, or the download
 //! of a file, over the notes on a disk and without a link. Each packet has a row of the client's table.
 //!
 //! [`Job::take`] takes a packet, and [`Job::fill`] gives what is to be sent next. What a packet's row notes is on the disk

@@ -37,7 +37,7 @@ pub(crate) fn note_acked<D: Disk>(
     answer_of(notes.acked(disk, task))
 }
 
-/// Notes that a task's file was refused with this code, but for a fault of the server's disk. Takes no memory.
+/// Notes that a task's file was refused with this code, except for a fault of the server's disk. Takes no memory.
 pub(crate) fn note_refused<D: Disk>(
     disk: &mut D,
     notes: &mut Notes,

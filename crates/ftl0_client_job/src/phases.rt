@@ -5,10 +5,10 @@ use px_base::FileNumber;
 /// How far an upload has come.
 ///
 /// A line of the picture is a packet, then `/` and the reply, `-` for none, in braces what is noted before it, and
-/// after `-->` the outcome, with which the link is hung up: at once, or later, once all that is queued is
-/// acknowledged. Refused 3 isn't noted. UL_GO_RESP is strange where n is 0 or another number than the one that is
-/// known, or the offset isn't 0 for a new file or is above the length of a known one. Any other packet is strange.
-/// The rows are in specs/Upload.antt, what is sent without a packet in specs/Due.antt.
+/// after `-->` the outcome, with which the link is hung up: at once, or later, once all that is queued is acknowledged.
+/// Refused 3 isn't noted. UL_GO_RESP is strange if n is 0 or another number than the one that is known, or the offset
+/// isn't 0 for a new file or is above the length of a known one. Any other packet is strange. The rows are in
+/// specs/Upload.antt, what is sent without a packet in specs/Due.antt.
 ///
 /// ```text
 /// +-------------+
@@ -41,15 +41,15 @@ pub(crate) enum UploadPhase {
     Go,
     /// The file, which has this number on the server, is sent from this place on.
     Sending { number: FileNumber, place: u32 },
-    /// The word on the file of this number is waited for.
+    /// UL_ACK_RESP or UL_NAK_RESP for the file of this number is waited for.
     Ack { number: FileNumber },
 }
 
 /// How far a list has come.
 ///
-/// The picture is as that of [`UploadPhase`]; nothing is noted. DATA is strange where more than 74,752 octets would
-/// have come; DATA_END and code 11 or 5 are strange where what came isn't short headers, one after another. The rows
-/// are in specs/Directory.antt.
+/// The picture is as that of [`UploadPhase`]; nothing is noted. DATA is strange if more than 74,752 octets would have
+/// come; DATA_END and code 11 or 5 are strange if what came isn't short headers, one after another. The rows are in
+/// specs/Directory.antt.
 ///
 /// ```text
 /// +-------------+
@@ -82,7 +82,7 @@ pub(crate) enum DirectoryPhase {
 
 /// How far a download has come.
 ///
-/// The picture is as that of [`UploadPhase`]. DATA is strange where more than 4,194,304 octets would have come. At
+/// The picture is as that of [`UploadPhase`]. DATA is strange if more than 4,194,304 octets would have come. At
 /// DATA_END a Got notes the octets that wait, if any do. The rows are in specs/Download.antt.
 ///
 /// ```text

@@ -10,7 +10,7 @@ use pfh_items::{HEADER_START, MANDATORY_ITEMS, MandatoryItem};
 /// How many octets a short header has.
 const SHORT_LEN: usize = 73;
 
-/// How many octets an item has beside its data.
+/// How many octets an item has besides its data.
 const ITEM_START: usize = 3;
 
 /// The end item.

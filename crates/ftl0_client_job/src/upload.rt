@@ -182,7 +182,7 @@ impl Upload {
         Ok(())
     }
 
-    /// Go, UL_ERROR_RESP: the file is refused, but where it is complete already.
+    /// Go, UL_ERROR_RESP: the file is refused, unless it is complete already.
     fn end_by_error<D: Disk>(
         &self,
         disk: &mut D,
@@ -249,8 +249,8 @@ impl Upload {
         }
     }
 
-    /// Puts what is due next in place of what `out` holds: DATA of the next 254 octets, the last one shorter, or DATA_END
-    /// where none is left. It answers false, and nothing changed, exactly where nothing is due. Takes no memory.
+    /// Replaces what `out` has by what is due next: DATA of the next 254 octets, the last one shorter, or DATA_END if
+    /// none is left. It answers false, and nothing changed, exactly if nothing is due. Takes no memory.
     pub(crate) fn fill(&mut self, out: &mut ArrayVec<u8, 256>) -> bool
         ensures { PutsDue (upload_due self.old) result self.old self.new out.old.items out.new.items }
     {

@@ -22,14 +22,15 @@ use ftl0_packets::{Malformed, Packet};
 pub(crate) enum Work {
     /// It uploads a file.
     Upload(Upload),
-    /// It lists the files that a selection holds of.
+    /// It lists the files that a selection matches.
     Directory(Directory),
     /// It downloads a file.
     Download(Download),
 }
 
 impl Work {
-    /// Takes a packet, malformed or not: its row, or a stop. A malformed one is strange. Takes memory, but for an upload.
+    /// Takes a packet, malformed or not: its row, or a stop. A malformed one is strange. Takes memory, except for an
+    /// upload.
     pub(crate) fn take_item<D: Disk>(
         &mut self,
         disk: &mut D,
@@ -70,7 +71,7 @@ impl Work {
         }
     }
 
-    /// Puts what is due next in place of what `out` holds; false, and nothing changed, exactly where nothing is due.
+    /// Replaces what `out` has by what is due next; false, and nothing changed, exactly if nothing is due.
     pub(crate) fn fill(&mut self, out: &mut ArrayVec<u8, 256>) -> bool
         ensures { PutsDue (work_due self.old) result self.old self.new out.old.items out.new.items }
     {

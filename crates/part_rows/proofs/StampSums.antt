@@ -9,7 +9,7 @@ use Rattle.pfh_items.proofs.Offered.{one_header}
 use Rattle.pfh_reader.specs.Check.{HasSums}
 use Rattle.pfh_writer.specs.Given.{IsFaultlessFile, IsHeaderOfSums, IsStampedSum, stamped_sum}
 
--- the header is the front of the file
+-- the header is the beginning of the file
 front : (file : List ℕ) (sums : Sums) (has : HasSums file sums) → take sums.header_len file ≡ header_text has.0
 front file sums has =
     ap (λ (n : ℕ). take n file) has.3.header_len

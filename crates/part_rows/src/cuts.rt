@@ -1,11 +1,11 @@
 //! Rows of disks that are armed to fail, and lose power. A row has the kind of the disk (`memory`, or `fuse` or `log`,
-//! which aren't armed at first), its octets, behind `|` its failing calls, and behind another one the calls that are
-//! made, parted by `;`.
+//! which aren't armed at first), its octets, after `|` its failing calls, and after another one the calls that are
+//! made, separated by `;`.
 //!
-//! The calls are those of rows of `disk`, and `cut PICK`; and but for `memory`, `arm N`, `disarm`, and `put AT OCTETS`,
-//! which writes the octets and syncs them. What each answers is printed, parted by `;`. Behind it stand the disk's
-//! octets then, with `starved` where a call found no memory, and what the power cuts left, as far as the disk tells it;
-//! all parted by ` | `.
+//! The calls are those of rows of `disk`, and `cut PICK`; and except for `memory`, `arm N`, `disarm`, and
+//! `put AT OCTETS`, which writes the octets and syncs them. What each answers is printed, separated by `;`. After it
+//! come the disk's octets then, with `starved` if a call found no memory, and what the power cuts left, as far as that
+//! can be observed; all separated by ` | `.
 
 ghost use Rattle.std.specs.Prelude.{◌≡◌, false, IfSome};
 ghost use Rattle.disk_model.specs.Cuts.{LastsSo, cut_state, cuts_by};
@@ -84,7 +84,7 @@ fn over_fuse(alloc: Global, disk: &mut FuseDisk, calls: &str) -> Result<String> 
     Ok(text)
 }
 
-/// The row of one that tells what its power cuts left.
+/// The row of a disk whose power cuts can be observed by what they left.
 fn over_log(alloc: Global, mut disk: LogDisk, calls: &str) -> Result<String> {
     let mut text = made(alloc, &mut disk, calls)?;
     let restarts = restarts_text(alloc, &disk)?;
@@ -158,7 +158,7 @@ fn cut<D: CutDisk>(disk: &mut D, pick: u64)
     disk.power_cut(pick);
 }
 
-/// Writes octets and syncs them, by calls that know nothing of the arming: what lasts through them is told by one law.
+/// Writes octets and syncs them, by calls that know nothing of the arming: what lasts through them is said by one law.
 fn put<D: CutDisk>(disk: &mut D, at: u64, octets: &[u8]) -> Result<(), DiskFault>
     ensures { LastsSo (cut_state D.Disk (cuts_by D.restarts D.arming D.plain D.is_starved) disk.old)
         (cut_state D.Disk (cuts_by D.restarts D.arming D.plain D.is_starved) disk.new) }

@@ -1,10 +1,10 @@
-//! Rows of a disk in memory. A row has, parted by `|`, the disk's octets, its failing calls, the calls that are made,
-//! parted by `;`, and the picks of crashes, parted by blanks.
+//! Rows of a disk in memory. A row has, separated by `|`, the disk's octets, its failing calls, the calls that are
+//! made, separated by `;`, and the picks of crashes, separated by blanks.
 //!
 //! The calls are `len`; `read AT COUNT`, which asks for the length first; `write AT OCTETS`; and `sync`. What each
-//! answers is printed, parted by `;`: the length, the octets read, `ok`, or `failed`. Behind it stand the disk's
-//! octets then, with `starved` where a call found no memory, and what a crash leaves of it by each pick; all parted
-//! by ` | `.
+//! answers is printed, separated by `;`: the length, the octets read, `ok`, or `failed`. After it come the disk's
+//! octets then, with `starved` if a call found no memory, and what a crash leaves of it by each pick; all separated by
+//! ` | `.
 
 pub mod calls;
 
@@ -53,7 +53,7 @@ impl Made<'_> {
         Ok(text)
     }
 
-    /// Puts what a crash leaves, as a number picks it, behind the text.
+    /// Appends what a crash leaves, as a number picks it, to the text.
     fn push_left(&self, alloc: Global, text: &mut String, pick: u64) -> Result<()> {
         let (_answers, disk) = self.disk(alloc)?;
         let left = disk.crash(pick)?;
@@ -71,7 +71,7 @@ impl Made<'_> {
     }
 }
 
-/// Puts a disk's octets behind the text, and `starved` where a call found no memory.
+/// Appends a disk's octets to the text, and `starved` if a call found no memory.
 pub fn push_end(alloc: Global, text: &mut String, octets: &[u8], starved: bool) -> Result<()> {
     push_octets(alloc, text, octets)?;
     if starved {
@@ -80,7 +80,7 @@ pub fn push_end(alloc: Global, text: &mut String, octets: &[u8], starved: bool) 
     Ok(())
 }
 
-/// Puts octets behind the text.
+/// Appends octets to the text.
 pub fn push_octets(alloc: Global, text: &mut String, octets: &[u8]) -> Result<()> {
     let octets = hex_text(alloc, octets)?;
     text.push_str(" | ")?;

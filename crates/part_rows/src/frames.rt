@@ -1,8 +1,8 @@
 //! Rows of frames, of the lines that show them, and of what a station hears.
 //!
 //! - `read OCTETS`: the frame of these octets: destination, source, how many repeaters, `command` or `response`, the
-//!   P/F bit and its kind; then the octets that are written of it, `alike` where they are these, and `none` where it
-//!   has repeaters. Or the octets' fault.
+//!   P/F bit and its kind; then the octets that are written of it, `alike` if they are these, and `none` if it has
+//!   repeaters. Or the octets' fault.
 //! - `controls`: the control octets of no kind of frame, in hexadecimal.
 //! - `lines FAILING | OCTETS`: what showing the parts of this KISS text answers, over an output whose calls of these
 //!   numbers fail; how many octets are shown then; and the lines, alike ones that follow one another as one, with how

@@ -1,13 +1,13 @@
 //! Rows of the header tool.
 //!
-//! - `show OCTETS` and `check OCTETS`: the text that shows this file's header, or its check, `|` in the place of line
+//! - `show OCTETS` and `check OCTETS`: the text that shows this file's header, or its check, with `|` instead of line
 //!   feeds, and the code of its fault.
 //! - `length NAME;EXT;TYPE;TIME;SOURCE;DESTINATION;TITLE;BODY`: the length of the file that is made of this; or why
 //!   none is made, also whatever the body is. Names and texts are words of octets; a destination and a title that there
 //!   isn't are `-`.
 //! - `file` of the same: its octets.
 //! - `made` of the same: what it shows.
-//! - `memory`: the text of want of memory.
+//! - `memory`: the text that says that there is no memory.
 
 mod making;
 

@@ -2,7 +2,7 @@
 //!
 //! - `items OCTETS`: what ends the items of these octets, then each item, its id and its data in hexadecimal, and what
 //!   ends them when all were taken.
-//! - `header ID.. | OCTETS`: `none` where the octets are no header and body; else the header, whether it is the octets
+//! - `header ID.. | OCTETS`: `none` if the octets are no header and body; else the header, whether it is the octets
 //!   whole, the body, and the data of the first items of these ids.
 //! - `table ID..`: of each id how many octets its data has, and whether it is a number, mandatory, and single.
 //! - `faults`: each fault of a file, its code and its text.

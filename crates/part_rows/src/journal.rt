@@ -1,15 +1,15 @@
-//! Rows of a journal. A row has, parted by `|`, a disk's octets, the numbers of its calls that fail, and how many
-//! calls of `write_at` and `sync` pass, and behind that `blocks`, where the octets of blocks stand before the records,
-//! or `halves`, where the records have two halves behind these. The journal of a store of 8 blocks, or of 1 with its
-//! octets, is recovered and read to its end; where there are blocks, `block` is written in block 0, and where there are
-//! no halves, seven octets are read there from place 1 on; and a record of the kind 4 with the content 01000000 is put.
-//! Where a half has no room for it, two records are put in place of all before.
+//! Rows of a journal. A row has, separated by `|`, a disk's octets, the numbers of its calls that fail, and how many
+//! calls of `write_at` and `sync` pass, and after that `blocks`, if the octets of blocks come before the records, or
+//! `halves`, if the records have two halves after these. The journal of a store of 8 blocks, or of 1 with its octets,
+//! is recovered and read to its end; if there are blocks, `block` is written in block 0, and if there are no halves,
+//! seven octets are read there from place 1 on; and a record of the kind 4 with the content 01000000 is put. If a half
+//! has no room for it, two records are put instead of all before.
 //!
-//! Printed are how it ended: `Done`, with the room behind the record, which is 2^62 octets where there are no halves;
+//! Printed are how it ended: `Done`, with the room after the record, which is 2^62 octets if there are no halves;
 //! `Refused` and why; `Failed`, why the octets or the records weren't put, and what a further put answers; or `Unread`.
-//! Behind ` | read ` stand the kind and the content of each record that was read, and the octets of the block, as far
-//! as they are 700 octets, and behind ` | ` the disk's octets, of which more than 32 alike are one in brackets, with
-//! how often it stands.
+//! After ` | read ` come the kind and the content of each record that was read, and the octets of the block, as far as
+//! they are 700 octets, and after ` | ` the disk's octets, of which more than 32 alike are one in brackets, with its
+//! count.
 
 mod anew;
 mod labelled;
@@ -41,7 +41,7 @@ impl Player for JournalRows {
     }
 }
 
-/// A row without its last word, where that is `blocks` or `halves`, and the layout of its store.
+/// A row without its last word, if that is `blocks` or `halves`, and the layout of its store.
 fn layout_of(row: &str) -> (&str, Layout) {
     match row.rsplit_once(' ') {
         Some((row, "blocks")) => (row, Layout::Blocks),

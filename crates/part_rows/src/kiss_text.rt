@@ -2,7 +2,8 @@
 //!
 //! - `read OCTETS`: the parts of the text, read whole and in pieces of 1, 2, 7 and 1,000 octets: `frame` and its
 //!   octets, `dropped` or `passed`.
-//! - `write OCTETS`: the text of a frame; or why there is none, and what stands then where the last one was written.
+//! - `write OCTETS`: the text of a frame; or why there is none, and what is then in the place in which the last one was
+//!   written.
 
 use crate::parts::{Parts, octets_text, same_text};
 use crate::pieces::cut;

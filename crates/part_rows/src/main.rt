@@ -1,10 +1,11 @@
 //! Plays rows of the parts that `pacsat` is made of, family by family: a test, in data. Each line of standard input
-//! names a family. Its rows are the lines of the file of that name with `.rows` behind it, in `data`, which lies where
-//! the program runs. For each family a heading is printed, and then for each row what its player gives; an empty line
-//! and one that begins with `#` are printed as they are.
+//! names a family. Its rows are the lines of the file of that name with `.rows` appended, in `data`, which is in the
+//! folder in which the program runs. For each family a heading is printed, and then for each row what its player gives;
+//! an empty line and one that begins with `#` are printed as they are.
 //!
-//! A family more is a module with a struct that is a `Player`, and says above what its rows are; a line in `play`; the
-//! file of its rows in `data`; its name in `stdin`; and what is wanted, worked out by hand, at its place in `stdout`.
+//! A further family is a module with a struct that is a `Player`, and says above what its rows are; a line in `play`;
+//! the file of its rows in `data`; its name in `stdin`; and what is expected, worked out by hand, at its place in
+//! `stdout`.
 #![tactic(auto)]
 
 mod base;

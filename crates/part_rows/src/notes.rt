@@ -1,18 +1,18 @@
-//! Rows of a client's notes over a disk in memory. A row's parts are parted by `|`; the first begins with the row's
+//! Rows of a client's notes over a disk in memory. A row's parts are separated by `|`; the first begins with the row's
 //! kind.
 //!
 //! - `play OCTETS | CALLS`: notes are recovered from a disk with these octets, and the calls are made on them. `notes`
-//!   and what each call answers are printed, parted by `;`; or why there are no notes.
-//! - `show OCTETS | CALLS`: the same, and behind ` | ` the disk's octets then.
-//! - `fail COUNT | OCTETS | CALLS`: as `play`, but only so many calls of `write_at` and `sync` pass.
+//!   and what each call answers are printed, separated by `;`; or why there are no notes.
+//! - `show OCTETS | CALLS`: the same, and after ` | ` the disk's octets then.
+//! - `fail COUNT | OCTETS | CALLS`: as `play`, but only the first COUNT calls of `write_at` and `sync` pass.
 //! - `stop COUNT | OCTETS | CALLS | PICKS | QUESTIONS`: the calls are made as in `fail`. Then, for each pick, the disk
 //!   loses power, and leaves the image that the number picks; at `-` it doesn't. Notes are recovered from what is left,
-//!   and the questions, calls too, are made on them; also on the notes before the calls, and on those after them where
+//!   and the questions, calls too, are made on them; also on the notes before the calls, and on those after them when
 //!   the disk doesn't stop. What the calls answered is printed, what was answered before and after them, and for each
-//!   pick `before` or `after`, where the same was answered, or what else; all parted by ` | `.
+//!   pick `before` or `after`, if the same was answered, or what else; all separated by ` | `.
 //!
-//! Calls are parted by `;`. Each is the name of a call of `Notes`, and its parameters in their order; but `numbered`,
-//! `acked` and `refused` have a server, a caller and a name in place of the task, which is their last one.
+//! Calls are separated by `;`. Each is the name of a call of `Notes`, and its parameters in their order; but
+//! `numbered`, `acked` and `refused` have a server, a caller and a name instead of the task, which is their last one.
 
 mod answers;
 mod calls;

@@ -1,11 +1,11 @@
 //! Rows of packets.
 //!
-//! - `read OCTETS`: each packet that ends in these octets, fed in pieces of 1 and of 2,049, where a piece ends where a
-//!   packet does: the packet, and `alike` where the octets written of it are these, or they; or what is malformed.
-//!   `more` where the last octet ends none.
-//! - `stream OCTETS`: the packets of octets that lie in memory, and the octets that are left; then the types of those
-//!   that a sink takes where the octets are cut in two anywhere; and how many of five octets 00 are then taken, and
-//!   what they end.
+//! - `read OCTETS`: each packet that ends in these octets, fed in pieces of 1 and of 2,049, so that each packet ends at
+//!   the end of a piece: the packet, and `alike` if the octets written of it are these, or they; or what is malformed.
+//!   `more` if the last octet ends none.
+//! - `stream OCTETS`: the packets of octets that are in memory, and the octets that are left; then the types of those
+//!   that a sink takes if the octets are cut in two anywhere; and how many of five octets 00 are then taken, and what
+//!   they end.
 
 mod reading;
 mod streams;

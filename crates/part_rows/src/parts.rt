@@ -8,7 +8,7 @@ use std::fmt::Display;
 /// How many alike octets are written out, one after another.
 const MOST_ALIKE: usize = 32;
 
-/// The parts so far, parted by `; `.
+/// The parts so far, separated by `; `.
 #[derive(Drop)]
 pub struct Parts {
     alloc: Global,
@@ -24,7 +24,7 @@ impl Parts {
         }
     }
 
-    /// Puts a part behind the others. Takes memory.
+    /// Appends a part to the others. Takes memory.
     pub fn put(&mut self, part: &str) -> Result<()> {
         if !self.text.is_empty() {
             self.text.push_str("; ")?;
@@ -33,17 +33,17 @@ impl Parts {
         Ok(())
     }
 
-    /// Puts what shows this behind the others. Takes memory.
+    /// Appends what shows this to the others. Takes memory.
     pub fn show<T: Display + Drop>(&mut self, shown: T) -> Result<()> {
         self.put(text_of(self.alloc, shown)?.as_str())
     }
 
-    /// Puts octets behind the others. Takes memory.
+    /// Appends octets to the others. Takes memory.
     pub fn show_octets(&mut self, octets: &[u8]) -> Result<()> {
         self.put(octets_text(self.alloc, octets)?.as_str())
     }
 
-    /// Puts `ok`, or the text of the error, behind the others. Takes memory.
+    /// Appends `ok`, or the text of the error, to the others. Takes memory.
     pub fn show_answer<E: Display + Drop>(&mut self, answer: Result<(), E>) -> Result<()> {
         match answer {
             Ok(()) => self.put("ok"),
@@ -58,7 +58,7 @@ impl Parts {
     }
 }
 
-/// Fails where this was found, in a way that is told, and not the text that there should be.
+/// Fails if this was found, and not the text that there should be; the error says `how` it was found.
 pub fn same_text<T: Display + Drop>(found: &str, text: &str, how: T) -> Result<()> {
     if found != text {
         bail!("{how}: {found}");
@@ -66,8 +66,8 @@ pub fn same_text<T: Display + Drop>(found: &str, text: &str, how: T) -> Result<(
     Ok(())
 }
 
-/// Octets in hexadecimal, `''` where there are none. Where more than 32 at the end are alike, they are one word, with
-/// how often it stands behind `*`. Takes memory.
+/// Octets in hexadecimal, `''` if there are none. If more than 32 at the end are alike, they are one word, with its
+/// count after `*`. Takes memory.
 pub fn octets_text(alloc: Global, octets: &[u8]) -> Result<String> {
     let Some(last) = octets.last() else {
         return text_of(alloc, "''");
@@ -84,15 +84,14 @@ pub fn octets_text(alloc: Global, octets: &[u8]) -> Result<String> {
     alike_text(alloc, front, *last, alike)
 }
 
-/// Octets in hexadecimal, and behind them one that stands so often.
+/// Octets in hexadecimal, and after them one with its count.
 fn alike_text(alloc: Global, front: &[u8], last: u8, alike: usize) -> Result<String> {
     let front = hex_text(alloc, front)?;
     let blank = if front.is_empty() { "" } else { " " };
     text_of(alloc, format_args!("{front}{blank}{last:02x}*{alike}"))
 }
 
-/// Octets in hexadecimal. Of more than 32 alike, one stands in brackets, with how often it stands behind `*`. Takes
-/// memory.
+/// Octets in hexadecimal. Of more than 32 alike, one is in brackets, with its count after `*`. Takes memory.
 pub fn runs_text(alloc: Global, octets: &[u8]) -> Result<String> {
     let mut text = String::new(alloc);
     for run in octets.chunk_by(|one, next| one == next) {
@@ -101,7 +100,7 @@ pub fn runs_text(alloc: Global, octets: &[u8]) -> Result<String> {
     Ok(text)
 }
 
-/// Puts alike octets behind the text.
+/// Appends alike octets to the text.
 fn push_run(alloc: Global, text: &mut String, run: &[u8]) -> Result<()> {
     match run {
         [octet, ..] if run.len() > MOST_ALIKE => {

@@ -1,8 +1,8 @@
 //! Rows of the check of files.
 //!
-//! Each row has a file's octets, `''` where there are none. They are checked as a whole, and in pieces of each length
-//! from 1 to 88 octets, which must find the same: the sums of a file without fault, and its body; or the first rule
-//! that it breaks.
+//! Each row has a file's octets, `''` if there are none. They are checked as a whole, and in pieces of each length from
+//! 1 to 88 octets, which must find the same: the sums of a file without fault, and its body; or the first rule that it
+//! breaks.
 
 use crate::parts::{octets_text, same_text};
 use crate::pieces::cut;
@@ -39,7 +39,7 @@ fn check_all(alloc: Global, file: &[u8]) -> Result<String> {
     Ok(text)
 }
 
-/// What the check of a file finds that is cut into pieces of a length, and that of the whole file beside it.
+/// What the check of a file finds that is cut into pieces of a length, together with that of the whole file.
 fn check_cut(alloc: Global, file: &[u8], len: usize) -> Result<String> {
     ensure!(len > 0 && file.len() < TOO_MANY, "no pieces of a file");
     let pieces = cut(alloc, file, len)?;

@@ -1,4 +1,4 @@
-//! Rows of refusals of a disk and of what stands on one. A row has a refusal's type, its name, and the value that it
+//! Rows of refusals of a disk and of what uses one. A row has a refusal's type, its name, and the value that it
 //! carries, if any. Its text is printed.
 
 use anyhow::{Result, bail, ensure};

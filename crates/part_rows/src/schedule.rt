@@ -1,9 +1,10 @@
 //! Rows of the texts of schedules.
 //!
-//! - `text TEXT`: what is read of this text, in which `|` stands for LF; or why it is none.
+//! - `text TEXT`: what is read of this text, in which `|` is written for LF; or why it is none.
 //! - `octets HEX`: the same of the text of these octets.
-//! - `tokens COUNT`: how many tokens are read of an event that asks for a list with so many; or why the text is none.
-//! - `memory`: the text of want of memory.
+//! - `tokens COUNT`: how many tokens are read of an event that asks for a list with this number of tokens; or why the
+//!   text is none.
+//! - `memory`: the text that says that there is no memory.
 
 use crate::parts::Parts;
 use air_schedule::{Event, Schedule, ScheduleFault};
@@ -59,7 +60,7 @@ fn tokens(alloc: Global, count: u32) -> Result<String> {
     }
 }
 
-/// A text of one event, which asks for a list with so many tokens.
+/// A text of one event, which asks for a list with this number of tokens.
 fn asking(alloc: Global, count: u32) -> Result<Vec<u8>> {
     let mut text = Vec::from_slice(alloc, b"window 1\nask 1 list ")?;
     for _ in 0..count {

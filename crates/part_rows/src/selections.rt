@@ -1,10 +1,10 @@
 //! Rows of headers, and of selections that are played over those so far.
 //!
 //! A row `header` and octets in hexadecimal is one header more: its place, counted from 0, is printed, or `no header`
-//! where the octets aren't one. A row `select` and tokens in hexadecimal is a selection: a digit is printed for each
-//! header so far, 1 where it holds of it and else 0, and then the tokens that it writes; or the tokens' first fault. A
-//! row `holds`, tokens, and the octets of a header that isn't kept says whether a selection holds of it, and a row
-//! `fault` and tokens has the text of their fault, or `none`.
+//! if the octets aren't one. A row `select` and tokens in hexadecimal is a selection: a digit is printed for each
+//! header so far, 1 if the selection matches it and else 0, and then the tokens that it writes; or the tokens' first
+//! fault. A row `holds`, tokens, and the octets of a header that isn't kept says whether a selection matches it, and a
+//! row `fault` and tokens has the text of their fault, or `none`.
 
 use anyhow::{Result, bail, ensure};
 use arrayvec::ArrayVec;
@@ -46,7 +46,7 @@ impl SelectionRows {
         text_of(self.alloc, format_args!("header {place}"))
     }
 
-    /// Shows of which headers a selection holds, and the tokens that it writes; or the tokens' first fault.
+    /// Shows which headers a selection matches, and the tokens that it writes; or the tokens' first fault.
     fn select(&mut self, tokens: &[u8]) -> Result<String> {
         ensure!(tokens.len() <= MOST_OCTETS, "too many octets");
         match Selection::read(tokens) {
@@ -86,7 +86,7 @@ impl Player for SelectionRows {
     }
 }
 
-/// `1` where the selection holds of the header with these octets, and else `0`.
+/// `1` if the selection matches the header with these octets, and else `0`.
 fn digit(selection: &Selection, octets: &[u8]) -> Result<&'static str> {
     let Some(header) = Header::of(octets) else {
         bail!("no header");
@@ -102,7 +102,7 @@ fn holds(alloc: Global, row: &str) -> Result<String> {
     holds_text(alloc, tokens.as_slice(), header.as_slice())
 }
 
-/// Whether the selection that these tokens are holds of a header; or the tokens' first fault.
+/// Whether the selection that these tokens are matches a header; or the tokens' first fault.
 fn holds_text(alloc: Global, tokens: &[u8], header: &[u8]) -> Result<String> {
     ensure!(tokens.len() <= MOST_OCTETS, "too many octets");
     match Selection::read(tokens) {

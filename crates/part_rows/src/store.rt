@@ -1,9 +1,9 @@
 //! Rows of a store over a disk in memory. A row has the length of a file and octets. In a new store of 8 blocks
 //! NOCALL begins the file at the moment 5, the octets are brought, and the file is ended at the moment 6.
 //!
-//! Printed is how it ended: why the file wasn't begun; `TooMuch`; or, with what the upload tells before the end,
-//! `Sealed` and the receipt's number, `Short`, `Header` and the code of a fault, or `Read` where a read of the disk
-//! failed. Behind ` | ` stands what a store that is recovered from the disk tells of the file, or `none`.
+//! Printed is how it ended: why the file wasn't begun; `TooMuch`; or, with what the upload reports before the end,
+//! `Sealed` and the receipt's number, `Short`, `Header` and the code of a fault, or `Read` if a read of the disk
+//! failed. After ` | ` comes what a store that is recovered from the disk says of the file, or `none`.
 
 ghost use Rattle.file_store.specs.State.{StandsOn};
 ghost use Rattle.file_store.specs.Upload.{Holds};
@@ -41,13 +41,13 @@ fn uploaded<D: Disk>(alloc: Global, disk: &mut D, length: u32, octets: &[u8]) ->
     Ok(upload(&mut store, disk, caller, length, octets))
 }
 
-/// What the store of this disk tells of the first file.
+/// What the store of this disk says of the first file.
 fn standing<D: Disk>(alloc: Global, disk: &mut D) -> Result<String> {
     let store = FileStore::recover(alloc, disk, LIMITS)?;
     standing_text(alloc, store.info(FileNumber::new(1)))
 }
 
-/// What a store tells of a file.
+/// What a store says of a file.
 fn standing_text(alloc: Global, info: Option<Info>) -> Result<String> {
     let Some(info) = info else {
         return text_of(alloc, "none");
@@ -64,7 +64,7 @@ fn standing_text(alloc: Global, info: Option<Info>) -> Result<String> {
     )
 }
 
-/// What an upload tells, and the store of it.
+/// What an upload reports, and the store of it.
 #[derive(Clone, Copy, Debug)]
 struct Told {
     number: u32,
@@ -135,7 +135,7 @@ fn end<D: Disk>(store: &mut FileStore, disk: &mut D, up: OpenUpload) -> Ended
     }
 }
 
-/// What an upload tells, and the store of it.
+/// What an upload reports, and the store of it.
 fn told_of(store: &FileStore, up: &OpenUpload) -> Told {
     Told {
         number: up.number().get(),

@@ -1,7 +1,7 @@
 //! Rows of what rows are.
 //!
 //! - `line LINE`: whether this line is a row.
-//! - `word WORD`: what this word stands for, in hexadecimal.
+//! - `word WORD`: the octets that this word is read as, in hexadecimal.
 //! - `words TEXT`: the words of a row, each in hexadecimal.
 //! - `numbers TEXT`: the numbers of a row; or why they are none.
 

@@ -1,13 +1,13 @@
 //! Rows of the building and the stamping of files.
 //!
 //! - `build NAME EXT | ITEMS | BODY`: a header of a name and an extension, each in octets, with these items, and all
-//!   else 0. An item is its id in hexadecimal, how often it is put, and its data; items are parted by `;`. What each
+//!   else 0. An item is its id in hexadecimal, how often it is put, and its data; items are separated by `;`. What each
 //!   put answers is printed, of an item that is put often the last; then the file, or why it isn't built.
 //! - `size NAME EXT | ITEMS | BODY`: the same, but of a file its length.
 //! - `stamp NUMBER CALL MOMENT | FILE`: the file, stamped as a whole, and in pieces of each length from 1 to 131, which
 //!   must give the same; or its fault.
 //! - `short FILE`: the short form of a file's header; or the file's fault.
-//! - `texts`: the texts of refusals for want of memory.
+//! - `texts`: the texts of refusals because there is no memory.
 
 mod building;
 mod stamping;

@@ -1,4 +1,4 @@
--- What a poll finds where reading a stream answers so.
+-- What a poll finds if reading a stream answers so.
 use Rattle.std.proofs.Common.{◌≡◌, ◌==◌, ℕ, zero, suc, ◌≤◌, List, [], ◌∷◌, length, if◌then◌else◌, Result, Ok, Err, IfOk, IsErr, OnErr, refl, ap, ◌∙◌, arith, Bool, false}
 use Rattle.px_base.specs.declared.air.Polled.TheVariants as polled
 use Rattle.px_base.specs.declared.air.Turn.TheVariants as turn

@@ -4,7 +4,7 @@ use Rattle.disk_model.specs.declared.disk.DiskFault.{DiskFault}
 use Rattle.real_outside.proofs.Names.{take-append-add, false≢true, append-nil, take-append-le, post_of, put_mid, FillsFrom, GoesOn, ReadsAll, all_given, moved, octets_given, DeviceCall}
 
 module _ (IsNext : ℕ → DeviceCall → Type 0) (all : ℕ) where
-  -- whatever moves the octets that are left moves all of them behind these calls
+  -- whatever moves the octets that are left moves all of them after these calls
   abbrev pub Leads : ℕ → List DeviceCall → Type 0
   Leads before calls = (later : List DeviceCall) (done : Bool) → GoesOn IsNext all before later done → GoesOn IsNext all 0 (calls ++ later) done
 
@@ -27,7 +27,7 @@ given_more [] next = append-nil (octets_given next)
 given_more (first ∷ calls) next =
     ap (λ (l : List ℕ). octets_given first ++ l) (given_more calls next) ∙ sym (append_assoc (octets_given first) (all_given calls) (octets_given next))
 
--- the front of the room after a read into what lies behind its first octets
+-- the beginning of the room after a read into what comes after its first octets
 pub front_of_room : (done k count : ℕ) (room part : List ℕ) → done ≤ length room → count ≤ length part → take (done + count) (put_mid done k room part) ≡ take done room ++ take count part
 front_of_room done k count room part within few =
     subst (λ (n : ℕ). take (n + count) (put_mid done k room part) ≡ take done room ++ take count part) (length-take-le done room within)

@@ -1,4 +1,4 @@
--- What short reads and writes come to.
+-- What short reads and writes add up to.
 use Rattle.std.proofs.Common.{◌≡◌, inl, inr, ⊎_elim, ℕ, ◌+◌, ◌-◌, ◌<◌, ◌≤◌, List, [], ◌∷◌, ◌++◌, length, take, drop, Bool, true, Ok, Err, refl, sym, ◌∙◌, ap, subst, arith, rules, add-zero, add_assoc, length-take-le}
 use Rattle.std.specs.List.{AllByRecursion}
 use Rattle.real_outside.specs.Disk.DeviceLaws.{IsTrueRead, octets_after}
@@ -8,7 +8,7 @@ use Rattle.real_outside.specs.declared.disk.device.DeviceCall.TheVariants as cal
 use Rattle.disk_model.proofs.Writes.{get_or-write_over_outside, length-write_over, torn_by_places}
 use Rattle.real_outside.proofs.Names.{take-add, cases_lt, false≢true, append-nil, drop-drop, places, same_lists, take_all, GoesOn, IsReadOf, IsWriteOf, all_given, DeviceCall}
 
--- octets written behind others
+-- octets written after others
 pub write_over_twice : (old : List ℕ) (at : ℕ) (first second : List ℕ) → write_over (write_over old at first) (at + length first) second ≡ write_over old at (first ++ second)
 write_over_twice old at first second = same_lists _ _ (search (rules, places)) (λ k d h. grind (arith, places))
 
@@ -18,7 +18,8 @@ goes_within IsNext all before [] done run = omega (arith, run.0)
 goes_within IsNext all before (next ∷ later) done run = omega (arith, run.0)
 
 module _ (octets written : List ℕ) (at : ℕ) where
-  -- so many octets were written: what is written behind them stands behind them, and where there are any, they stand there
+  -- this number of octets was written: what is written after them is there after them, and if there are any, they are
+  -- there
   record Wrote (before : ℕ) (now : List ℕ) : Type 0 where
     pub behind : (more : List ℕ) → write_over now (at + before) more ≡ write_over octets at (take before written ++ more)
     pub there : 0 < before → now ≡ write_over octets at (take before written)
@@ -63,7 +64,7 @@ module _ (octets written : List ℕ) (at : ℕ) where
   pub one_write : (calls : List DeviceCall) → 0 < length written → GoesOn (λ b. IsWriteOf (at + b) (drop b written)) (length written) 0 calls true → octets_after octets calls ≡ write_over octets at written
   one_write calls some run = one_write_from 0 octets calls some wrote_none run
 
-  -- the first so many of the octets, over what was there
+  -- the first octets, this number of them, over what was there
   torn_front : (n : ℕ) → n ≤ length written → Torn at (length written) octets (write_over octets at (take n written))
   torn_front n within =
       let size : length (take n written) ≡ n = length-take-le n written within in
@@ -81,7 +82,7 @@ module _ (octets written : List ℕ) (at : ℕ) where
     | inr none ↦ subst (λ (l : List ℕ). Torn at (length written) octets l) (sym (wrote.none (omega (arith, none)))) torn_none
   ]
 
-  -- a write of none behind so many
+  -- a write of none after this number of octets
   torn_at_none : (before : ℕ) (now : List ℕ) → before ≤ length written → Wrote before now → Torn at (length written) octets (write_over now (at + before) [])
   torn_at_none before now within wrote =
       subst (λ (l : List ℕ). Torn at (length written) octets l)

@@ -7,7 +7,7 @@ use Rattle.real_outside.specs.Shelf.Folder.{IsReadingAnswer}
 use Rattle.px_base.specs.Shelves.{AnswersOfAll, LoadResult, load_answer}
 use Rattle.real_outside.proofs.Names.{OnOk, nat_le, length-take, take_all, nat_tests}
 
--- Where one octet more than may come was asked for, what came is answered as all there is.
+-- If one octet more than may come was asked for, what came is answered as all there is.
 front_answer :
     (octets got : List ℕ) (limit most : ℕ) → limit ≡ min (most + 1) 18446744073709551615
     → length got < 9223372036854775808 → got ≡ take limit octets

@@ -3,7 +3,7 @@ use Rattle.std.proofs.Common.{◌≡◌, inl, inr, ℕ, ◌+◌, ◌<◌, List, 
 use Rattle.real_outside.specs.declared.files.file_call.FileCall.TheVariants as call
 use Rattle.real_outside.proofs.Names.{append-nil, drop-drop, WritesFrom, WritesSome, FileCall, SystemError}
 
--- whatever writes the octets that are left writes all of them behind these calls
+-- whatever writes the octets that are left writes all of them after these calls
 abbrev pub Leads : List ℕ → ℕ → ℕ → List FileCall → Type 0
 Leads octets file written calls =
     (result : Result Unit SystemError) (later : List FileCall)

@@ -1,10 +1,10 @@
--- What the calls that write octets come to.
+-- What the calls that write octets add up to.
 use Rattle.std.proofs.Common.{◌≡◌, inl, inr, ℕ, ◌+◌, ◌<◌, List, [], ◌∷◌, ◌++◌, length, take, drop, Bool, false, None, Some, refl, sym, ◌∙◌, ap, subst, arith, append_assoc}
 use Rattle.real_outside.specs.StreamCalls.{WritesSome}
 use Rattle.real_outside.specs.declared.stream.StreamCall.{StreamCall}
 use Rattle.real_outside.proofs.Names.{drop-drop, drop-take, drop_all, take-append-drop, take-take, Writes}
 
--- whatever writes the octets behind so many, after so many writes, writes all of them behind these calls
+-- whatever writes the octets from this place on, after this number of writes, writes all of them after these calls
 abbrev pub Leads : List ℕ → ℕ → ℕ → List StreamCall → Type 0
 Leads octets made written calls =
     (done : Bool) (later : List StreamCall)
@@ -51,7 +51,7 @@ leads_end octets made written done first later whole leads run =
     leads done later
     (subst (λ (l : List ℕ). Writes made l done later) (sym (drop_all written octets (omega (arith, whole)))) run)
 
--- the first octets and those behind them
+-- the first octets and those after them
 pub take_sum : (n m : ℕ) (octets : List ℕ) → take n octets ++ take m (drop n octets) ≡ take (n + m) octets
 take_sum n m octets =
     let front = take (n + m) octets in

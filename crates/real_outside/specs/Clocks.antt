@@ -10,7 +10,7 @@ use Rattle.real_outside.specs.declared.system_error.SystemError.{SystemError}
 abbrev pub Reading : Type 0
 Reading = Result Duration SystemError
 
--- the moment of a reading: whole seconds up to 2^32 - 1, and 0 where the time can't be read
+-- the moment of a reading: whole seconds up to 2^32 - 1, and 0 if the time can't be read
 abbrev pub moment_of : Reading → ℕ
 moment_of (Ok since) = min (as_nanos since / 1000000000) 4294967295
 moment_of (Err refused) = 0
@@ -19,13 +19,13 @@ moment_of (Err refused) = 0
 abbrev pub ReadsOnce : Option (List Reading) → Option (List Reading) → ℕ → Type 0
 ReadsOnce before now moment = (reading : Reading) × Grows before now (reading ∷ []) × (moment ≡ moment_of reading)
 
--- a time in memory: the readings to come, the one that goes on behind them, and those that were made
+-- a time in memory: the readings to come, the one that every later call gives, and those that were made
 pub record MemoryTimeState : Type 0 where
   pub coming : List Reading
   pub last : Reading
   pub made : CallRecordState Reading
 
--- the first of these readings, or this one where there is none
+-- the first of these readings, or this one if there is none
 abbrev pub first_reading : List Reading → Reading → Reading
 first_reading [] last = last
 first_reading (reading ∷ readings) last = reading

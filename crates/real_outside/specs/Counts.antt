@@ -2,7 +2,7 @@
 use Rattle.std.specs.Prelude.{◌≡◌, ℕ, Result}
 use Rattle.px_base.specs.Outside.{HasCause, counted_after}
 
--- A call counts its fault: the count rose exactly where it failed, by one up to its last number.
+-- A call counts its fault: the count rose exactly if it failed, by one up to its last number.
 pub record Counts {T E : Type 0} (before now : ℕ) (result : Result T E) : Type 0 where
   pub cause : HasCause before now result
   pub counted : now ≡ counted_after result before

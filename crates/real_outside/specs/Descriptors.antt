@@ -1,4 +1,4 @@
--- Which null devices are held in the place of closed standard streams.
+-- Which null devices are held instead of closed standard streams.
 use Rattle.std.specs.Prelude.{◌≡◌, ◌⊎◌, ℕ, ◌+◌, ℤ, pos, List, [], ◌∷◌, ◌++◌, length, take, get_or, map, nat_le}
 use Rattle.std.specs.Prelude.{if◌then◌else◌, Bool, true, false, Option, None, Some, MatchOption, Result, Ok, Err, ⊤}
 use Rattle.std.specs.declared.io.ErrorKind.TheVariants as reason
@@ -47,7 +47,7 @@ module _ {O : Type 0} (descriptor : O → ℤ) where
   abbrev pub KeepsHeld : StandardStreams O → StandardStreams O → Type 0
   KeepsHeld before now = (n : ℤ) → IsHeld before n → IsHeld now n
 
-  -- One that was opened is held where its descriptor is a standard stream's, which is said.
+  -- One that was opened is held if its descriptor is a standard stream's, and the answer says so.
   abbrev pub HoldsOpened :
       StandardStreams O → StandardStreams O → Result O SystemError → Result Bool SystemError → Type 0
   HoldsOpened before now (Ok opened) (Ok true) = IsHeld now (descriptor opened) × KeepsHeld before now
@@ -55,7 +55,7 @@ module _ {O : Type 0} (descriptor : O → ℤ) where
   HoldsOpened before now (Ok opened) (Err error) = ⊥
   HoldsOpened before now (Err error) result = result ≡ Err error
 
--- the null device in memory: the descriptors of its openings, of which so many were made
+-- the null device in memory: the descriptors of its openings, and how many of them were made
 pub record NullState : Type 0 where
   pub descriptors : List (Option ℤ)
   pub opened : ℕ
@@ -65,11 +65,11 @@ abbrev pub answer_of : Option ℤ → Result ℤ SystemError
 answer_of None = Err (record { kind = reason.Other; number = None })
 answer_of (Some n) = Ok n
 
--- how the next opening ends: behind the last descriptor it fails
+-- how the next opening ends: after the last descriptor it fails
 abbrev pub next_answer : NullState → Result ℤ SystemError
 next_answer null = answer_of (get_or null.descriptors null.opened None)
 
--- its openings are told up to the last that has a place among the descriptors
+-- its openings can be observed up to the last that has a place among the descriptors
 abbrev pub told_answers : NullState → Option (List (Result ℤ SystemError))
 told_answers null =
     if nat_le null.opened (length null.descriptors)

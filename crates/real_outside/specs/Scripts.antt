@@ -10,7 +10,7 @@ pub record Scripted (C : Type 0) : Type 0 where
   pub coming : List MemoryAnswer
   pub made : CallRecordState C
 
--- the next answer, which is that the call is done behind the last one
+-- the next answer, which after the last one is that the call is done
 abbrev pub next_answer : List MemoryAnswer → MemoryAnswer
 next_answer [] = answer.Done
 next_answer (next ∷ answers) = next
@@ -22,21 +22,21 @@ done_answer (answer.Gives octets) = Ok tt
 done_answer (answer.Takes count) = Ok tt
 done_answer answer.Done = Ok tt
 
--- what a read into so much room gives
+-- what a read into this much room gives
 abbrev pub read_answer : ℕ → MemoryAnswer → Result (List ℕ) SystemError
 read_answer room (answer.Fails error) = Err error
 read_answer room (answer.Gives octets) = Ok (take room octets)
 read_answer room (answer.Takes count) = Ok []
 read_answer room answer.Done = Ok []
 
--- how many of so many octets a write takes
+-- how many octets a write takes that is given this number of them
 abbrev pub write_answer : ℕ → MemoryAnswer → Result ℕ SystemError
 write_answer all (answer.Fails error) = Err error
 write_answer all (answer.Gives octets) = Ok all
 write_answer all (answer.Takes count) = Ok (min count all)
 write_answer all answer.Done = Ok all
 
--- A call goes by the script: this is what it gives for the next answer, which is taken from those to come.
+-- A call follows the script: this is what it gives for the next answer, which is taken from those to come.
 pub record Follows {T : Type 0} (coming coming_now : List MemoryAnswer) (answer_of : MemoryAnswer → T) (given : T)
     : Type 0 where
   pub answer : given ≡ answer_of (next_answer coming)

@@ -29,15 +29,15 @@ abbrev pub is_interrupted : ErrorKind → Bool
 is_interrupted reason.Interrupted = true
 is_interrupted _ = false
 
--- how many octets a write took behind which the others follow: none where a signal came first
+-- how many octets a write took after which the others follow: none if a signal came first
 abbrev pub octets_taken : Result ℕ SystemError → Option ℕ
 octets_taken (Ok zero) = None
 octets_taken (Ok (suc count)) = Some (suc count)
 octets_taken (Err refused) = if is_interrupted refused.kind then Some 0 else None
 
--- These octets are left behind so many writes, and written by these calls: each write is of all that are left; once
--- none is, the stream is flushed, and that it answers so is the answer. A write that takes none or fails, but for a
--- signal, is the last call, and they aren't written; nor are they behind 2^64 - 1 writes.
+-- These octets are left after this number of writes, and written by these calls: each write is of all that are left;
+-- once none is, the stream is flushed, and that it answers so is the answer. A write that takes none or fails, except
+-- for a signal, is the last call, and they aren't written; nor are they after 2^64 - 1 writes.
 abbrev pub Writes : ℕ → List ℕ → Bool → List StreamCall → Type 0
 Writes made left done [] = (made ≡ 18446744073709551615) × (done ≡ false)
 Writes made left done (call.Read count answer ∷ calls) = ⊥
@@ -48,11 +48,11 @@ Writes made left done (call.Write octets answer ∷ calls) =
     ⊎ ((count : ℕ) × (octets_taken answer ≡ Some count) × Writes (made + 1) (drop count left) done calls))
 Writes made left done (call.Flush answer ∷ calls) = (left ≡ []) × (calls ≡ []) × (done ≡ is_ok answer)
 
--- These octets are written by these calls, and the stream is flushed behind them.
+-- These octets are written by these calls, and the stream is flushed after them.
 abbrev pub WritesAll : List ℕ → Bool → List StreamCall → Type 0
 WritesAll = Writes 0
 
--- one write of these octets, and how many it took behind which the others follow
+-- one write of these octets, and how many it took after which the others follow
 abbrev pub WritesSome : List ℕ → Option ℕ → List StreamCall → Type 0
 WritesSome octets taken calls =
     (answer : Result ℕ SystemError) × (calls ≡ call.Write octets answer ∷ []) × (taken ≡ octets_taken answer)

@@ -17,7 +17,7 @@ pub record OutState (W : Type 0) : Type 0 where
   pub faults : ℕ
 
 -- What a reader has left before and after an answer: octets that were heard are its next ones, and the air is closed
--- only where the reader has ended. It is never quiet.
+-- only if the reader has ended. It is never quiet.
 abbrev pub HearsFrom : Option (List ℕ) → Option (List ℕ) → Turn → Type 0
 HearsFrom before now (turn.Bytes octets) = Consumes before now octets
 HearsFrom before now turn.Quiet = ⊥

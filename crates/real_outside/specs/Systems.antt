@@ -11,7 +11,7 @@ use Rattle.real_outside.specs.declared.files.file_call.Found.{Found}
 use Rattle.real_outside.specs.declared.files.file_call.Found.TheVariants as found
 use Rattle.real_outside.specs.declared.system_error.SystemError.{SystemError}
 
--- the kind of an error, and its number where the system gave one
+-- the kind of an error, and its number if the system gave one
 abbrev pub system_error : Error → SystemError
 system_error refused = record { kind = error_kind refused; number = raw_os_error refused }
 
@@ -21,18 +21,19 @@ answer_of_lock (Ok done) = Ok tt
 answer_of_lock (Err locked.WouldBlock) = Err (record { kind = reason.WouldBlock; number = None })
 answer_of_lock (Err (locked.Error error)) = Err (system_error error)
 
--- what stands where the system tells this of it: a regular file, a link, or anything else
+-- what is at a path of which the system says this: a regular file, a link, or anything else
 pub record IsFoundThere (there : Metadata) (result : Result Found SystemError) : Type 0 where
   pub file : IsFile (file_type there) → result ≡ Ok (found.File (metadata_mode there))
   pub link : IsSymlink (file_type there) → result ≡ Ok found.Link
   pub other : (IsFile (file_type there) → ⊥) → (IsSymlink (file_type there) → ⊥) → result ≡ Ok found.Other
 
--- what stands where the system can't tell that for this reason: nothing exactly where it says that nothing is there
+-- what is at a path of which the system can't say that for this reason: nothing exactly if it says that nothing is
+-- there
 pub record IsNotFound (error : Error) (result : Result Found SystemError) : Type 0 where
   pub nothing : error_kind error ≡ reason.NotFound → result ≡ Ok found.Nothing
   pub refused : error_kind error ≢ reason.NotFound → result ≡ Err (system_error error)
 
--- what stands where the system answers so
+-- what is at a path if the system answers so
 abbrev pub IsFound : Result Metadata Error → Result Found SystemError → Type 0
 IsFound (Ok there) result = IsFoundThere there result
 IsFound (Err error) result = IsNotFound error result

@@ -25,9 +25,9 @@ pub struct StandardStreams<H> {
     error: Option<H>,
 }
 
-/// Opens the null device until its descriptor is above 2, and holds those that are not; at most 3 are. So no file that is
-/// opened later gets the descriptor of a standard stream. It fails where an opening does, and where a fourth one has
-/// such a descriptor still. Takes no memory.
+/// Opens the null device until its descriptor is above 2, and holds those that are not; at most 3 are. So no file that
+/// is opened later gets the descriptor of a standard stream. It fails if an opening does, and if a fourth one has such
+/// a descriptor still. Takes no memory.
 pub fn hold_standard_streams<N: NullDevice>(
     null: &mut N,
 ) -> Result<StandardStreams<N::Opened>, SystemError>
@@ -59,7 +59,7 @@ fn hold_next<N: NullDevice>(
     Ok(hold(null, streams, opened))
 }
 
-/// Holds this null device where its descriptor is one of a standard stream, and says whether it is.
+/// Holds this null device if its descriptor is one of a standard stream, and says whether it is.
 fn hold<N: NullDevice>(
     null: &N,
     streams: &mut StandardStreams<N::Opened>,

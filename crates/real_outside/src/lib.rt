@@ -1,6 +1,6 @@
-//! The real outside of the program: a file as a disk, the working folder as a shelf, a TCP connection as an air, standard
-//! streams as an air and as an output, the system's clock, the standard descriptors. Each stands on a small trait of the
-//! calls that it makes, which a form in memory tells.
+//! The real outside of the program: a file as a disk, the working folder as a shelf, a TCP connection as an air,
+//! standard streams as an air and as an output, the system's clock, the standard descriptors. Each uses a small trait
+//! of the calls that it makes; in a form in memory these can be observed.
 #![tactic(auto)]
 
 mod descriptors;

@@ -14,8 +14,8 @@ use px_base::{CallRecord, FileBytes, OutOfMemory};
 use std::alloc::Global;
 use std::marker::Model;
 
-/// A stream in memory, which answers by a script. It tells the calls that reached it, until one finds no memory to be
-/// recorded.
+/// A stream in memory, which answers by a script. The calls that reached it can be observed, until one finds no memory
+/// to be recorded.
 #[derive(Drop)]
 pub struct MemoryStream {
     alloc: Global,

@@ -13,8 +13,8 @@ use std::collections::VecDeque;
 use std::marker::Model;
 use std::time::Duration;
 
-/// A time in memory. It gives its readings in order, and then the last one at each call. It tells them until one finds
-/// no memory to be recorded.
+/// A time in memory. It gives its readings in order, and then the last one at each call. They can be observed until one
+/// finds no memory to be recorded.
 #[derive(Drop)]
 pub struct MemoryTime {
     coming: VecDeque<Result<Duration, SystemError>>,

@@ -10,15 +10,15 @@ use std::collections::VecDeque;
 use std::marker::Model;
 
 /// What a stream or a connection in memory answers to its next call, whichever that is. What doesn't fit the call is
-/// passed over: a read gives no octet then, a write takes all, and any other call is done. So are the calls after the
-/// last answer.
+/// ignored: a read gives no octet then, a write takes all, and any other call is done. So are the calls after the last
+/// answer.
 #[derive(Debug, Drop)]
 pub enum MemoryAnswer {
     /// The call fails.
     Fails(SystemError),
     /// A read gives the first of these octets, as many as the room has.
     Gives(FileBytes),
-    /// A write takes so many octets, or all where there are fewer.
+    /// A write takes this number of octets, or all if there are fewer.
     Takes(usize),
     /// The call is done.
     Done,
@@ -94,7 +94,7 @@ impl Script {
     }
 }
 
-/// Copies the first of these octets to the front of the room, as many as it has, and says how many.
+/// Copies the first of these octets to the beginning of `room`, as many as it has, and says how many.
 fn copy_front(octets: &[u8], room: &mut [u8]) -> usize
     ensures count { result ≤ length room.new }
     ensures room { length room.new ≡ length room.old }

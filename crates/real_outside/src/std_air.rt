@@ -1,4 +1,4 @@
-//! Streams as an air. It tells nothing of their content; it counts their faults.
+//! Streams as an air. Their content can't be observed; it counts their faults.
 
 ghost use Rattle.std.specs.Prelude.{◌≡◌, ◌==◌, None, IfOk, IsErr, OnErr, OnOk, if◌then◌else◌, is_ok};
 ghost use Rattle.std.specs.Io.KnownBytes.{Appends};
@@ -16,7 +16,7 @@ use px_base::{Air, AirDown, FaultCount, Out, Polled};
 use std::io::{Read, Write};
 use std::marker::Model;
 
-/// An air over two streams, as standard input and standard output. It is never quiet, and is closed where the first one
+/// An air over two streams, as standard input and standard output. It is never quiet, and is closed when the first one
 /// ends.
 #[derive(Drop)]
 pub struct StdAir<R, W> {
@@ -83,7 +83,7 @@ impl<R: InputStream, W: OutputStream> Air for StdAir<R, W> {
 
     ghost write_faults = { λ a. a.write_faults };
 
-    /// Hears the next octets of the stream, by one read. It fails where that does, and then takes none.
+    /// Hears the next octets of the stream, by one read. It fails if that does, and then takes none.
     fn poll(&mut self, room: &mut [u8; 512]) -> Result<Polled, AirDown>
         ensures count { IfOk result IsPolled }
         ensures faults { CountsFirst self.old.read_faults self.new.read_faults self.old.write_faults
@@ -96,7 +96,7 @@ impl<R: InputStream, W: OutputStream> Air for StdAir<R, W> {
         self.read_faults.count_err(polled)
     }
 
-    /// Writes all of these octets, and flushes the stream behind them. It fails where either does.
+    /// Writes all of these octets, and flushes the stream after them. It fails if either does.
     fn put(&mut self, bytes: &[u8]) -> Result<(), AirDown>
         ensures faults { CountsFirst self.old.write_faults self.new.write_faults self.old.read_faults
             self.new.read_faults result }
@@ -117,7 +117,7 @@ fn hear<R: InputStream>(input: &mut R, room: &mut [u8; 512]) -> Result<Polled, A
     poll_answer(input.read(room))
 }
 
-/// What a poll found, where reading answered so: the end exactly where it gave no octet.
+/// What a poll found, if reading answered so: the end exactly if it gave no octet.
 fn poll_answer(read: Result<usize, SystemError>) -> Result<Polled, AirDown>
     ensures ok { IfOk read (λ count. result ≡ Ok (if count == 0 then Polled.End else Polled.Bytes count)) }
     ensures err { OnErr read (IsErr result) }

@@ -1,4 +1,4 @@
-//! A stream as an output. It tells nothing of its content; it counts its faults.
+//! A stream as an output. Its content can't be observed; it counts its faults.
 
 ghost use Rattle.std.specs.Prelude.{◌≡◌, None, OnOk, is_ok};
 ghost use Rattle.std.specs.Io.KnownBytes.{Appends};
@@ -61,7 +61,7 @@ impl<W: OutputStream> Out for StdOut<W> {
 
     ghost faults = { λ a. a.faults };
 
-    /// Writes all of these octets, and flushes the stream behind them. It fails where either does.
+    /// Writes all of these octets, and flushes the stream after them. It fails if either does.
     fn put(&mut self, bytes: &[u8]) -> Result<(), OutDown>
         ensures faults { Counts self.old.faults self.new.faults result }
         ensures shows { OnOk result (Appends (W.contents self.old.output) (W.contents self.new.output) bytes.now) }

@@ -13,12 +13,12 @@ use px_base::FileBytes;
 /// A call that reached a stream, with what it answered.
 #[derive(Debug, Drop)]
 pub enum StreamCall {
-    /// It was asked for at most so many octets, and gave these.
+    /// It was asked for at most this number of octets, and gave these.
     Read {
         count: usize,
         answer: Result<FileBytes, SystemError>,
     },
-    /// It was given these octets, and took so many of them.
+    /// It was given these octets, and took this number of them.
     Write {
         bytes: FileBytes,
         answer: Result<usize, SystemError>,
@@ -31,17 +31,17 @@ pub enum StreamCall {
 
 /// Octets that come, as those of standard input. A read may be short.
 ///
-/// A stream may tell the calls that reached it, and the octets that it has left. The form in memory tells its calls; a
-/// real one doesn't.
+/// The calls that reached a stream, and the octets that it has left, may be observable. The calls of the form in memory
+/// are; those of a real one aren't.
 pub trait InputStream {
-    /// The calls that reached it so far, where they are told.
+    /// The calls that reached it so far, if they can be observed.
     ghost calls: { Self → Option (List StreamCall) };
 
-    /// The octets that it has left, where they are told.
+    /// The octets that it has left, if they can be observed.
     ghost remaining: { Self → Option (List ℕ) };
 
-    /// Puts the next octets into the front of the room, and says how many: at most as many as the room has, and none
-    /// where the stream has ended.
+    /// Puts the next octets at the beginning of `room`, and says how many: at most as many as the room has, and none if
+    /// the stream has ended.
     fn read(&mut self, room: &mut [u8]) -> Result<usize, SystemError>
         ensures room { length room.new ≡ length room.old }
         ensures moves { Moves (calls self.old) (calls self.new)
@@ -51,13 +51,13 @@ pub trait InputStream {
 
 /// Octets that go, as those of standard output. A write may be short.
 ///
-/// A stream may tell the calls that reached it, and the octets that it took. The form in memory tells its calls; a real
-/// one doesn't.
+/// The calls that reached a stream, and the octets that it took, may be observable. The calls of the form in memory
+/// are; those of a real one aren't.
 pub trait OutputStream {
-    /// The calls that reached it so far, where they are told.
+    /// The calls that reached it so far, if they can be observed.
     ghost calls: { Self → Option (List StreamCall) };
 
-    /// The octets that it took, where they are told.
+    /// The octets that it took, if they can be observed.
     ghost contents: { Self → Option (List ℕ) };
 
     /// Takes the first of these octets, and says how many.

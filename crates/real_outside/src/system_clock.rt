@@ -1,4 +1,4 @@
-//! The system's clock. It tells nothing of the moments that it gives.
+//! The system's clock. The moments that it gives can't be observed.
 
 ghost use Rattle.std.specs.Prelude.{◌≡◌, None};
 ghost use Rattle.real_outside.specs.Clocks.{ReadsOnce, moment_of as moment_of_reading};
@@ -59,7 +59,7 @@ impl<T: TimeSource> Clock for SystemClock<T> {
     }
 }
 
-/// The moment of this reading: whole seconds, up to 2^32 - 1, and 0 where the time can't be read.
+/// The moment of this reading: whole seconds, up to 2^32 - 1, and 0 if the time can't be read.
 fn moment_of(reading: Result<Duration, SystemError>) -> Moment
     ensures { result ≡ moment_of_reading reading }
 {

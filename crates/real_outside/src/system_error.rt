@@ -6,7 +6,7 @@ ghost use Rattle.real_outside.specs.Systems.{system_error};
 use std::io::{self, ErrorKind};
 use thiserror::Error;
 
-/// Why the system refused a call: the kind of its error, and its number where the system gave one.
+/// Why the system refused a call: the kind of its error, and its number if the system gave one.
 #[derive(Clone, Copy, Debug, PartialEq, Eq, Error)]
 #[error("the system refused a call: {kind}")]
 pub struct SystemError {

@@ -1,4 +1,4 @@
-//! A reader or a writer of the system as a stream. It tells none of its calls.
+//! A reader or a writer of the system as a stream. None of its calls can be observed.
 
 ghost use Rattle.std.specs.Prelude.{◌≡◌, None};
 

@@ -9,10 +9,10 @@ use std::marker::Model;
 use std::rt::Clock;
 use std::time::Duration;
 
-/// What gives the time since 1 January 1970. It may tell the readings of it; the form in memory does, the real one
-/// doesn't.
+/// What gives the time since 1 January 1970. The readings of it may be observable: in the form in memory they are, in
+/// the real one they aren't.
 pub trait TimeSource {
-    /// The readings so far, where they are told.
+    /// The readings so far, if they can be observed.
     ghost readings: { Self → Option (List Reading) };
 
     /// Reads the time since 1 January 1970.
@@ -20,7 +20,7 @@ pub trait TimeSource {
         ensures { Grows (readings self.old) (readings self.new) (result ∷ []) };
 }
 
-/// The system's own time. It tells none of its readings.
+/// The system's own time. None of its readings can be observed.
 #[derive(Drop)]
 pub struct SystemTime<R> {
     clock: R,

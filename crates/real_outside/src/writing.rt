@@ -11,7 +11,7 @@ use crate::system_error::SystemError;
 use px_base::OutDown;
 use std::io::ErrorKind;
 
-/// Writes octets to the stream, write by write, and flushes it behind them. A write that a signal interrupted is made
+/// Writes octets to the stream, write by write, and flushes it after them. A write that a signal interrupted is made
 /// again; one that takes none, or fails otherwise, is a fault, and so is the end of 2^64 - 1 writes.
 pub(crate) fn write_all<W: OutputStream>(stream: &mut W, bytes: &[u8]) -> Result<(), OutDown>
     ensures contents { OnOk result (Appends (W.contents stream.old) (W.contents stream.new) bytes.now) }
@@ -29,7 +29,7 @@ pub(crate) fn write_all<W: OutputStream>(stream: &mut W, bytes: &[u8]) -> Result
     flush(stream)
 }
 
-/// Writes these octets once, and says how many were taken: none where a signal came first.
+/// Writes these octets once, and says how many were taken: none if a signal came first.
 fn write_some<W: OutputStream>(stream: &mut W, bytes: &[u8]) -> Result<usize, OutDown>
     ensures count { IfOk result (λ count. count ≤ length bytes.now) }
     ensures contents { IfOk result
@@ -39,7 +39,7 @@ fn write_some<W: OutputStream>(stream: &mut W, bytes: &[u8]) -> Result<usize, Ou
     taken_answer(stream.write(bytes))
 }
 
-/// How many octets were taken, where writing answered so: none where a signal came first, and else none is a fault.
+/// How many octets were taken, if writing answered so: none if a signal came first, and else none is a fault.
 fn taken_answer(written: Result<usize, SystemError>) -> Result<usize, OutDown>
     ensures { result_ok result ≡ octets_taken written }
 {

@@ -1,8 +1,8 @@
-//! Rows of a disk over a device in memory. A row has, parted by `|`, the device's octets, the most of them that one
-//! call moves, the numbers of its calls that fail, and the calls of the disk, parted by `;`, which `disk_calls` tells.
+//! Rows of a disk over a device in memory. A row has, separated by `|`, the device's octets, the most of them that one
+//! call moves, the numbers of its calls that fail, and the calls of the disk, separated by `;`, as in `disk_calls`.
 //!
-//! What the calls answer is printed; and behind it, parted by ` | `, the device's octets then, and how many calls
-//! reached it, with `starved` where a write found no memory.
+//! What the calls answer is printed; and after it, separated by ` | `, the device's octets then, and how many calls
+//! reached it, with `starved` if a write found no memory.
 
 use crate::disk_calls::make_call;
 use crate::steps::{Steps, make_steps};
@@ -40,7 +40,7 @@ impl<'a> Steps<'a> for OverDevice {
     }
 }
 
-/// A device with these octets, of which a call moves at most so many, and whose calls of these numbers fail.
+/// A device with these octets, of which a call moves at most this number, and whose calls of these numbers fail.
 fn read_device(alloc: Global, text: &str) -> Result<MemoryDevice> {
     let (octets, most, failing) = three_parts(text, '|')?;
     let octets = read_octets(alloc, octets)?;

@@ -36,7 +36,7 @@ fn len_text(alloc: Global, len: Result<u64, DiskFault>) -> Result<String> {
     }
 }
 
-/// Reads so many octets from this place on.
+/// Reads this number of octets from this place on.
 fn read<V: Device>(
     alloc: Global,
     disk: &mut DeviceDisk<V>,

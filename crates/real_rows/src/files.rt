@@ -1,15 +1,15 @@
-//! Rows of real files, each over the folder where the program runs. A row has steps:
+//! Rows of real files, each over the folder in which the program runs. A row has steps:
 //!
-//! - Of the folder: `write NAME OCTETS` sets a file's octets, and `read NAME` gives them, or `nothing` where nothing is
+//! - Of the folder: `write NAME OCTETS` sets a file's octets, and `read NAME` gives them, or `nothing` if nothing is
 //!   there; `folder NAME` makes a folder, and `link TO NAME` a link; `mode NAME BITS` sets who may read, write and run
 //!   a file, and `mode NAME` gives it, both in octal; `rename FROM TO`; `remove NAME` takes a file, a link or an empty
 //!   folder away. What changes something answers `ok`.
 //! - Of the shelf over it: `keep NAME OCTETS` and `load NAME MOST`.
 //! - Of disks over files, up to three, `A`, `B` and `C`: `open A NAME`, which calls nothing yet, and `close A` answer
-//!   `ok`; `A` and a call, which `disk_calls` tells.
+//!   `ok`; `A` and a call, as in `disk_calls`.
 //! - Of streams: `air IN OUT` makes an air that hears one file, and says to another through a buffer that is written
-//!   where it is flushed; `poll` and `put OCTETS`, which `air_calls` tells. `show NAME OCTETS` puts octets on an output
-//!   to a file.
+//!   when it is flushed; `poll` and `put OCTETS`, as in `air_calls`. `show NAME OCTETS` puts octets on an output to a
+//!   file.
 
 mod disks;
 mod folder;

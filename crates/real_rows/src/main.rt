@@ -1,16 +1,16 @@
 //! Plays rows of what is real, family by family: files as disks, the shelf over a folder, streams, a connection on this
 //! machine, the clock: a test, in data. Each line of standard input names a family. Its rows are the lines of the file
-//! of that name with `.rows` behind it, in `data`, which lies where the program runs; there it makes its files, and
-//! each row removes those that it made. For each family a heading is printed, and then for each row what its player
-//! gives; an empty line and one that begins with `#` are printed as they are.
+//! of that name with `.rows` appended, in `data`, which is in the folder in which the program runs; in that folder it
+//! makes its files, and each row removes those that it made. For each family a heading is printed, and then for each
+//! row what its player gives; an empty line and one that begins with `#` are printed as they are.
 //!
-//! A row that has steps has them parted by `;`, and what they answer is printed parted by `; `. A step is words, of
-//! which `''` is one without octets. Octets are written as in the other programs of rows; what is printed of them is
-//! hexadecimal, `''` where there are none, and one octet and a count behind `*` where there are more than 32, all
-//! alike.
+//! A row that has steps has them separated by `;`, and what they answer is printed separated by `; `. A step is words,
+//! of which `''` is one without octets. Octets are written as in the other programs of rows; what is printed of them is
+//! hexadecimal, `''` if there are none, and one octet and a count after `*` if there are more than 32, all alike.
 //!
-//! A family more is a module with a struct that is a `Player`, and says above what its rows are; a line in `play`; the
-//! file of its rows in `data`; its name in `stdin`; and what is wanted, worked out by hand, at its place in `stdout`.
+//! A further family is a module with a struct that is a `Player`, and says above what its rows are; a line in `play`;
+//! the file of its rows in `data`; its name in `stdin`; and what is expected, worked out by hand, at its place in
+//! `stdout`.
 #![tactic(auto)]
 
 mod air_calls;

@@ -1,13 +1,13 @@
 //! Rows of the air of a modem, over connections on this machine. At first something listens, as a modem does, and an
 //! air to it is made, which isn't connected yet. A row has steps:
 //!
-//! - `poll` and `put OCTETS`, calls of the air, which `air_calls` tells. A poll that is `quiet` took at least 90
-//!   milliseconds and less than 10 seconds; else its time is behind it.
-//! - `options`: whether the air's connection sends at once (`nodelay`), and how long a read of it waits; `none` where
+//! - `poll` and `put OCTETS`, calls of the air, as in `air_calls`. A poll that is `quiet` took at least 90 milliseconds
+//!   and less than 10 seconds; else its time comes after it.
+//! - `options`: whether the air's connection sends at once (`nodelay`), and how long a read of it waits; `none` if
 //!   there is none.
-//! - `accept`: the modem takes the connection. `say OCTETS`: it says octets; `hear COUNT`: it hears so many, which are
-//!   printed; `shut`: it says nothing more; `hang`: it hangs up. `away`: nothing listens any more.
-//! - `anew`: a new air to the same modem takes the place of the air; `to ADDRESS`: one to this address.
+//! - `accept`: the modem takes the connection. `say OCTETS`: it says octets; `hear COUNT`: it hears that many, which
+//!   are printed; `shut`: it says nothing more; `hang`: it hangs up. `away`: nothing listens any more.
+//! - `anew`: a new air to the same modem replaces the air; `to ADDRESS`: one to this address.
 
 mod row;
 

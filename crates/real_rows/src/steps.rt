@@ -9,7 +9,8 @@ pub trait Steps<'a> {
     fn make(&mut self, alloc: Global, words: &[&'a str]) -> Result<String>;
 }
 
-/// Makes the steps of a row, which are parted by `;`, and gives what is printed for them, parted by `; `. Takes memory.
+/// Makes the steps of a row, which are separated by `;`, and gives what is printed for them, separated by `; `. Takes
+/// memory.
 pub fn make_steps<'a, S: Steps<'a>>(alloc: Global, steps: &mut S, row: &'a str) -> Result<String> {
     let mut text = String::new(alloc);
     for step in row.split(';') {

@@ -1,9 +1,9 @@
-//! Rows of an air over two streams in memory. A row has, parted by `|`, what the stream answers that it hears, what the
-//! one answers that it says to, call after call, and the air's calls, parted by `;`: `poll` and `put OCTETS`, which
-//! `air_calls` tells.
+//! Rows of an air over two streams in memory. A row has, separated by `|`, what the stream answers that it hears, what
+//! the one answers that it says to, call after call, and the air's calls, separated by `;`: `poll` and `put OCTETS`, as
+//! in `air_calls`.
 //!
 //! An answer is octets that a read gives; `*` and how many octets a write takes; `done`; `fail`; or `signal`, the
-//! failure of a call that a signal interrupted. What the calls answer is printed; and behind it, parted by ` | `, the
+//! failure of a call that a signal interrupted. What the calls answer is printed; and after it, separated by ` | `, the
 //! octets that the second stream took, and how many calls reached each stream.
 
 use crate::air_calls::{poll, put};

@@ -1,7 +1,7 @@
 //! Rows of the system.
 //!
-//! - `clock`: reads the clock twice: `ok` where the first moment is past 1 January 2024, and the second one isn't
-//!   before it; else both moments.
+//! - `clock`: reads the clock twice: `ok` if the first moment is past 1 January 2024, and the second one isn't before
+//!   it; else both moments.
 //! - `texts`: the texts of errors: a device that failed, and a call that the system refused.
 
 use anyhow::{Result, bail};

@@ -16,8 +16,8 @@ pub fn answer_text<E: Display + Drop>(alloc: Global, answer: Result<(), E>) -> R
     }
 }
 
-/// Octets in hexadecimal, `''` where there are none. Where there are more than 32, all alike, they are one octet and
-/// how often it stands behind `*`. Takes memory.
+/// Octets in hexadecimal, `''` if there are none. If there are more than 32, all alike, they are one octet, with its
+/// count after `*`. Takes memory.
 pub fn octets_text(alloc: Global, octets: &[u8]) -> Result<String> {
     match octets {
         [] => text_of(alloc, "''"),

@@ -15,7 +15,7 @@ octets_push [] next = append-nil (octets_of_turn next)
 octets_push (t ∷ turns) next =
     ap (λ octets. octets_of_turn t ++ octets) (octets_push turns next) ∙ sym (append_assoc (octets_of_turn t) (octets_heard turns) (octets_of_turn next))
 
--- turns behind turns, each of which a poll can bring
+-- turns after turns, each of which a poll can bring
 pub turns_join : (turns later : List Turn) → AllByRecursion IsTurn turns → AllByRecursion IsTurn later → AllByRecursion IsTurn (turns ++ later)
 turns_join [] later h k = k
 turns_join (t ∷ turns) later h k = (h.0, turns_join turns later h.1 k)

@@ -7,14 +7,14 @@ use std::alloc::Global;
 
 /// What is done over the disk of a row.
 pub trait OverDisk {
-    /// What is told of it.
+    /// What is reported of it.
     type Told;
 
     /// Does it over this disk. Takes memory.
     fn over<D: Disk>(&mut self, alloc: Global, disk: &mut D) -> Result<Self::Told>;
 }
 
-/// The octets of a row's disk: those that are written; or behind `=` what a read gives of the disk of the row right
+/// The octets of a row's disk: those that are written; or after `=` what a read gives of the disk of the row right
 /// before, or what a crash leaves of it, as a number picks it. Takes memory.
 pub fn octets_before(alloc: Global, text: &str, before: Option<MemoryDisk>) -> Result<Vec<u8>> {
     let Some(pick) = text.strip_prefix('=') else {
@@ -25,7 +25,7 @@ pub fn octets_before(alloc: Global, text: &str, before: Option<MemoryDisk>) -> R
     Ok(Vec::from_slice(alloc, left.bytes())?)
 }
 
-/// The disk as it is; or what a crash leaves of it, where a number picks it.
+/// The disk as it is; or what a crash leaves of it, if a number picks it.
 fn left_by(disk: MemoryDisk, pick: &str) -> Result<MemoryDisk> {
     if pick.is_empty() {
         return Ok(disk);
@@ -33,8 +33,9 @@ fn left_by(disk: MemoryDisk, pick: &str) -> Result<MemoryDisk> {
     Ok(disk.crash(pick.parse::<u64>()?)?)
 }
 
-/// Does something over a disk with these octets, and gives what is told of it, and the disk. The numbers of the disk's
-/// calls that fail are given, or behind `!` how many calls of `write_at` and `sync` pass before each fails. Takes memory.
+/// Does something over a disk with these octets, and gives what is reported of it, and the disk. The numbers of the
+/// disk's calls that fail are given, or after `!` how many calls of `write_at` and `sync` pass before each fails. Takes
+/// memory.
 pub fn disk_after<T: OverDisk>(
     alloc: Global,
     done: &mut T,
@@ -47,7 +48,7 @@ pub fn disk_after<T: OverDisk>(
     }
 }
 
-/// Does something over a disk of which so many calls of `write_at` and `sync` pass.
+/// Does something over a disk of which this number of calls of `write_at` and `sync` pass.
 fn over_fuse<T: OverDisk>(
     alloc: Global,
     done: &mut T,

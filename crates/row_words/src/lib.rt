@@ -1,16 +1,17 @@
-//! What the programs share that play rows: lines of data, each a run. Words and numbers in a row are parted by blanks.
+//! What the programs share that play rows: lines of data, each a run. Words and numbers in a row are separated by
+//! blanks.
 //!
-//! Octets are words of hexadecimal digits. Behind `*` stands how often a word's octets stand; behind `+`, how many
+//! Octets are words of hexadecimal digits. After `*` comes how often a word's octets are repeated; after `+`, how many
 //! records like it there are, the first number of each greater by one than that of the one before.
 //!
-//! Turns of an air are words too. Octets, written so, are heard in as many turns as polls of so many octets take;
-//! `quiet`, `end` and `fail` are a turn each. Each turn has the clock's moment, which is 1 at first; `@` and a number
-//! is the moment from then on, and `+` and a number are so many quiet turns, each at the moment after the one before.
-//! After the last turn the air is closed, and the clock goes on with the last moment.
+//! Turns of an air are words too. Octets, written so, are heard in as many turns as polls of a given number of octets
+//! take; `quiet`, `end` and `fail` are a turn each. Each turn has the clock's moment, which is 1 at first; `@` and a
+//! number is the moment from then on, and `+` and a number are that many quiet turns, each at the moment after the one
+//! before. After the last turn the air is closed, and the clock goes on with the last moment.
 //!
 //! A disk has the octets that are written; or `=`, what a read gives of the disk of the row right before; or `=` and a
 //! number, what a crash leaves of that disk, as the number picks it. Its failing calls are their numbers; or `!` and a
-//! number: so many calls of `write_at` and `sync` pass, and each after them fails.
+//! number: that many calls of `write_at` and `sync` pass, and each after them fails.
 #![tactic(auto)]
 
 ghost use Rattle.std.specs.Prelude.{◌≡◌, ◌≢◌, ◌↔◌, ◌<◌, [], length, slice_index, codes, IsTrue};
@@ -38,7 +39,7 @@ pub trait Player {
     fn play(&mut self, alloc: Global, row: &str) -> Result<String>;
 }
 
-/// Prints a family's name behind `==`, and then plays each row of the file of that name with `.rows` behind it, and
+/// Prints a family's name after `==`, and then plays each row of the file of that name with `.rows` appended, and
 /// prints what the player gives for it. A line that is no row is printed as it is. Takes memory.
 pub fn play_family<R: AllocGlobal + Files + Print, P: Player>(
     rt: &R,

@@ -21,7 +21,7 @@ pub fn with_lines(alloc: Global, text: &str) -> Result<Vec<u8>> {
     Ok(octets)
 }
 
-/// Puts the octets of a word behind the others.
+/// Appends the octets of a word to the others.
 fn push_word(alloc: Global, octets: &mut Vec<u8>, word: &str) -> Result<()> {
     if let Some((piece, count)) = word.split_once('*') {
         let piece = hex::decode(alloc, piece)?;
@@ -35,7 +35,7 @@ fn push_word(alloc: Global, octets: &mut Vec<u8>, word: &str) -> Result<()> {
     Ok(())
 }
 
-/// Puts a piece behind the octets so often.
+/// Appends a piece to the octets this number of times.
 fn push_often(octets: &mut Vec<u8>, piece: &[u8], count: u32) -> Result<()> {
     for _ in 0..count {
         octets.extend_from_slice(piece)?;
@@ -43,8 +43,8 @@ fn push_often(octets: &mut Vec<u8>, piece: &[u8], count: u32) -> Result<()> {
     Ok(())
 }
 
-/// Puts so many records behind the octets: this one, and others, the number of each greater by one than that of the one
-/// before.
+/// Appends this number of records to the octets: this one, and others, the number of each greater by one than that of
+/// the one before.
 fn push_records(octets: &mut Vec<u8>, record: &[u8], count: u32) -> Result<()> {
     let [
         gate,

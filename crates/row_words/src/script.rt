@@ -10,8 +10,8 @@ use anyhow::{Result, ensure};
 use px_base::{MemoryAir, MemoryClock, OutOfMemory, ROOM, Turn};
 use std::alloc::Global;
 
-/// An air that brings the turns of a row, where a poll brings so many octets at most, and whose calls of these numbers
-/// fail; and the clock. Takes memory.
+/// An air that brings the turns of a row, if a poll brings at most this number of octets, and whose calls of these
+/// numbers fail; and the clock. Takes memory.
 pub fn read_air(
     alloc: Global,
     failing: &str,
@@ -32,7 +32,7 @@ pub struct Script {
 }
 
 impl Script {
-    /// Reads the turns of a row, which are parted by blanks, where a poll brings so many octets at most.
+    /// Reads the turns of a row, which are separated by blanks, if a poll brings at most this number of octets.
     pub fn read(alloc: Global, text: &str, poll: usize) -> Result<Script>
         ensures turns { IfOk result (λ script. AllByRecursion IsTurn script.turns.items) }
     {
@@ -80,7 +80,7 @@ impl Script {
         }
     }
 
-    /// So many quiet turns, each at the moment after the one before.
+    /// This number of quiet turns, each at the moment after the one before.
     fn add_quiet(&mut self, count: u32) -> Result<(), OutOfMemory>
         requires turns { AllByRecursion IsTurn self.old.turns.items }
         ensures turns { OnOk result (AllByRecursion IsTurn self.new.turns.items) }

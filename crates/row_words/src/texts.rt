@@ -9,7 +9,7 @@ pub fn text_of<T: Display + Drop>(alloc: Global, shown: T) -> Result<String> {
     Ok(format!(in alloc; "{shown}")?)
 }
 
-/// Puts the text that shows this behind the text. Takes memory.
+/// Appends the text that shows this to the text. Takes memory.
 pub fn push_shown<T: Display + Drop>(alloc: Global, text: &mut String, shown: T) -> Result<()> {
     let shown = text_of(alloc, shown)?;
     text.push_str(shown.as_str())?;
@@ -21,26 +21,26 @@ pub fn hex_text(alloc: Global, octets: &[u8]) -> Result<String> {
     Ok(hex::encode(alloc, octets)?)
 }
 
-/// The two parts of a text that this character parts where it first stands.
+/// The two parts of a text before and after the first of these characters.
 pub fn two_parts(text: &str, by: char) -> Result<(&str, &str)> {
     text.split_once(by).context("a part is missing")
 }
 
-/// The three parts of a text that this character parts where it first stands.
+/// The three parts of a text before, between and after the first two of these characters.
 pub fn three_parts(text: &str, by: char) -> Result<(&str, &str, &str)> {
     let (first, rest) = two_parts(text, by)?;
     let (second, third) = two_parts(rest, by)?;
     Ok((first, second, third))
 }
 
-/// The four parts of a text that this character parts where it first stands.
+/// The four parts of a text before, between and after the first three of these characters.
 pub fn four_parts(text: &str, by: char) -> Result<(&str, &str, &str, &str)> {
     let (first, second, rest) = three_parts(text, by)?;
     let (third, fourth) = two_parts(rest, by)?;
     Ok((first, second, third, fourth))
 }
 
-/// The first word of a row, and what stands behind it; nothing where the row has one word alone.
+/// The first word of a row, and what comes after it; nothing if the row has one word alone.
 pub fn kind_and_rest(row: &str) -> (&str, &str) {
     row.split_once(' ').unwrap_or((row, ""))
 }

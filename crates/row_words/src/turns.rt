@@ -7,7 +7,7 @@ ghost use Rattle.px_base.specs.Polling.{IsTurn, octets_heard};
 use px_base::{FileBytes, OutOfMemory, Turn};
 use std::alloc::Global;
 
-/// The turns that bring these octets, so many in each but the last.
+/// The turns that bring these octets, this number in each but the last.
 pub fn turns_of(alloc: Global, octets: &[u8], poll: usize) -> Result<Vec<Turn>, OutOfMemory>
     requires some { 1 ≤ poll }
     requires most { poll ≤ 512 }

@@ -7,7 +7,7 @@ use ftl0_packets::{ErrorCode, Packet};
 use px_base::{FileNumber, Moment};
 use std::fmt::Write;
 
-/// Shows what the client asks for. How far an upload is the server's acknowledgements tell.
+/// Shows what the client asks for. How far an upload is can be seen from the server's acknowledgements.
 pub(crate) fn show_sent(
     job: &mut Transfer,
     packet: &Packet<'_>,
@@ -27,7 +27,7 @@ pub(crate) fn show_sent(
     }
 }
 
-/// Shows what the server replies and sends. An outcome is shown as soon as it is there; the link ends behind it.
+/// Shows what the server replies and sends. An outcome is shown as soon as it is there; the link ends after it.
 pub(crate) fn show_got(job: &mut Transfer, packet: &Packet<'_>, moment: Moment, lines: &mut Lines) {
     let (number, work) = (job.number.get(), job.work);
     match packet {

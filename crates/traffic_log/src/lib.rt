@@ -1,6 +1,6 @@
 //! What passes over an air, shown as lines for people: who connects, what is sent and fetched, how far it is, and how
 //! it ended. [`LoggedAir`] is the air that it wraps, whatever it shows: each call is one call of that air, with its
-//! answer and its octets, and where a line can't be shown nothing else changes. The lines are shown, and not promised:
+//! answer and its octets, and if a line can't be shown nothing else changes. The lines are shown, and not promised:
 //! they are what a [`Watcher`] makes of the frames and packets that pass (KISS; AX.25 2.0; FTL0 1990).
 #![tactic(auto)]
 

@@ -12,14 +12,14 @@ const ROOM: usize = 4096;
 /// Room for one line, in octets.
 const LINE_ROOM: usize = 1024;
 
-/// Lines that wait to be shown, up to 4,096 octets, and the one that is put together. What there is no room for is
-/// left out. Takes no memory beside itself.
+/// Lines that wait to be shown, up to 4,096 octets, and the one that is put together. What there is no room for is left
+/// out. Takes no memory besides itself.
 #[derive(Drop)]
 pub struct Lines {
     text: ArrayString<ROOM>,
     /// The line that is put together: it is written to, and then ended.
     pub(crate) line: ArrayString<LINE_ROOM>,
-    /// Whether they are shown on a terminal, where a line can be written over.
+    /// Whether they are shown on a terminal, on which a line can be written over.
     pub(crate) terminal: bool,
     /// Whether the line that was ended last is one to be written over.
     over: bool,
@@ -27,7 +27,7 @@ pub struct Lines {
 }
 
 impl Lines {
-    /// No lines; `terminal` where a line can be written over.
+    /// No lines; `terminal` if a line can be written over.
     pub fn new(terminal: bool) -> Lines {
         Lines {
             text: ArrayString::new(),
@@ -43,12 +43,12 @@ impl Lines {
         self.text.as_str().as_bytes()
     }
 
-    /// Lets the lines go that waited.
+    /// Drops the lines that waited.
     pub fn clear(&mut self) {
         self.text.clear();
     }
 
-    /// Ends the line. On a terminal the next one of these is written over it where `over` holds of both.
+    /// Ends the line. On a terminal the next one of these is written over it if `over` is true of both.
     pub(crate) fn end(&mut self, over: bool) {
         let over = over && self.terminal;
         if !over {
@@ -79,7 +79,7 @@ impl Out for Lines {
 
     ghost faults = { λ a. a.left_out };
 
-    /// Puts whole lines to those that wait, or none where there is no room for them.
+    /// Appends whole lines to those that wait, or none if there is no room for them.
     fn put(&mut self, bytes: &[u8]) -> Result<(), OutDown> {
         self.leave_line();
         let text = str::from_utf8(bytes).unwrap_or("");

@@ -1,4 +1,4 @@
-//! A station's link, as far as its frames tell it.
+//! A station's link, as far as its frames show it.
 
 use crate::client_lines::{show_got, show_sent};
 use crate::lines::Lines;
@@ -89,7 +89,7 @@ impl Link {
         !self.up && self.wish == Wish::Nothing
     }
 
-    /// Shows what a frame of the station tells, at this moment.
+    /// Shows what a frame of the station says, at this moment.
     pub(crate) fn hear(&mut self, kind: &Kind<'_>, moment: Moment, lines: &mut Lines) {
         if let Some(nr) = acknowledged_by(kind) {
             self.acknowledge(nr, moment, lines);
@@ -106,7 +106,7 @@ impl Link {
         self.tries = 0;
     }
 
-    /// Shows what a frame of this end tells, at this moment.
+    /// Shows what a frame of this end says, at this moment.
     pub(crate) fn say(&mut self, frame: &Frame<'_>, moment: Moment, lines: &mut Lines) {
         if frame.command && frame.poll {
             self.tries = self.tries.saturating_add(1);
@@ -128,7 +128,7 @@ impl Link {
         }
     }
 
-    /// Shows that the link is down, where nothing answered for long enough at this moment.
+    /// Shows that the link is down, if nothing answered for long enough at this moment.
     pub(crate) fn wait(&mut self, moment: Moment, lines: &mut Lines) {
         let most = match self.wish {
             Wish::OurConnect | Wish::OurDisconnect => MOST_TRIES,
@@ -157,7 +157,7 @@ impl Link {
         }
     }
 
-    /// Shows that the link is up: all begins anew.
+    /// Shows that the link is up: all begins again.
     fn connect(&mut self, lines: &mut Lines) {
         self.up = true;
         self.wish = Wish::Nothing;
@@ -173,7 +173,7 @@ impl Link {
         lines.end(false);
     }
 
-    /// Shows that the link is down, or that none came to be, and why.
+    /// Shows that the link is down, or that none was made, and why.
     fn refuse(&mut self, why: &str, lines: &mut Lines) {
         if self.is_free() {
             return;
@@ -184,7 +184,7 @@ impl Link {
         lines.end(false);
     }
 
-    /// Shows how far a transfer is, where the I frames before this N(R) are acknowledged (AX.25 2.0, 2.4.4).
+    /// Shows how far a transfer is, if the I frames before this N(R) are acknowledged (AX.25 2.0, 2.4.4).
     fn acknowledge(&mut self, nr: u8, moment: Moment, lines: &mut Lines) {
         let mut octets = 0_usize;
         for _ in 0..NUMBERS {

@@ -56,7 +56,7 @@ impl<'a, A, O, C> LoggedAir<'a, A, O, C> {
 }
 
 impl<'a, A: Air, O: Out, C: Clock> LoggedAir<'a, A, O, C> {
-    /// Shows what a poll that brought these octets tells, or a put of them. That it can't be shown is passed over.
+    /// Shows what the octets say that a poll brought, or a put gave. That it can't be shown is ignored.
     fn show(&mut self, heard: bool, octets: &[u8])
         ensures { self.new ≡ self.old }
     {
@@ -98,7 +98,7 @@ impl<'a, A: Air, O: Out, C: Clock> Air for LoggedAir<'a, A, O, C> {
         polled
     }
 
-    /// Says these octets on the air that it wraps, in one call, and then shows them where they were said.
+    /// Says these octets on the air that it wraps, in one call, and then shows them if they were said.
     fn put(&mut self, bytes: &[u8]) -> Result<(), AirDown>
         ensures ok { OnOk result (Gains (A.said self.old) (A.said self.new) bytes.now) }
         ensures err { OnErr result (GainsPrefix (A.said self.old) (A.said self.new) bytes.now) }

@@ -2,7 +2,7 @@
 
 use ftl0_packets::{Packet, PacketFed, PacketReader};
 
-/// The packets in the I frames of one end of a link, in order. A frame that is said again is passed over (AX.25 2.0,
+/// The packets in the I frames of one end of a link, in order. A frame that is sent again is ignored (AX.25 2.0,
 /// 2.4.4).
 #[derive(Drop)]
 pub(crate) struct PacketStream {

@@ -25,7 +25,7 @@ pub(crate) fn show_asked(job: &mut Transfer, caller: Call, packet: &Packet<'_>, 
     }
 }
 
-/// Shows what a caller is replied, but for the code that ends each list.
+/// Shows what a caller is replied, except for the code that ends each list.
 pub(crate) fn show_said(job: &mut Transfer, caller: Call, packet: &Packet<'_>, lines: &mut Lines) {
     match packet {
         Packet::UlGoResp { number, offset } => {

@@ -4,7 +4,7 @@ use crate::lines::Lines;
 use px_base::{FileNumber, Moment};
 use std::fmt::Write;
 
-/// Seconds between two lines of progress, where a line can't be written over.
+/// Seconds between two lines of progress, if a line can't be written over.
 const PROGRESS_SECONDS: u32 = 30;
 
 /// What is under way on a link.
@@ -20,14 +20,14 @@ pub(crate) enum Work {
     List,
 }
 
-/// The transfer of a link, as far as packets told it, in octets.
+/// The transfer of a link, as far as packets showed it, in octets.
 #[derive(Clone, Copy)]
 pub(crate) struct Transfer {
     /// What is under way.
     pub(crate) work: Work,
     /// The file's number.
     pub(crate) number: FileNumber,
-    /// The file's length, or 0 where it isn't known.
+    /// The file's length, or 0 if it isn't known.
     pub(crate) length: u32,
     /// How many octets have passed.
     place: u32,
@@ -39,7 +39,7 @@ pub(crate) struct Transfer {
 }
 
 impl Transfer {
-    /// A job of a file of this number, and of this length where that isn't 0.
+    /// A job of a file of this number, and of this length if that isn't 0.
     pub(crate) fn new(work: Work, number: FileNumber, length: u32) -> Transfer {
         Transfer {
             work,
@@ -75,7 +75,7 @@ impl Transfer {
         lines.end(false);
     }
 
-    /// So many octets passed at this moment, which is shown from time to time.
+    /// This number of octets passed at this moment, which is shown from time to time.
     pub(crate) fn pass(&mut self, octets: usize, moment: Moment, lines: &mut Lines) {
         let octets = u32::try_from(octets).unwrap_or(0);
         self.place = self.place.saturating_add(octets);
@@ -86,7 +86,7 @@ impl Transfer {
         }
     }
 
-    /// Shows the place, the octets a second since it began, and the time that is left where the length is known.
+    /// Shows the place, the octets a second since it began, and the time that is left if the length is known.
     fn show(&self, moment: Moment, lines: &mut Lines) {
         let place = self.place;
         let passed = place.saturating_sub(self.from);
@@ -102,7 +102,7 @@ impl Transfer {
         lines.end(true);
     }
 
-    /// Adds the length to a line, where it is known.
+    /// Adds the length to a line, if it is known.
     fn end_with_length(&self, lines: &mut Lines) {
         if self.length > 0 {
             let _ = write!(lines.line, " of {}", self.length);
@@ -110,7 +110,7 @@ impl Transfer {
     }
 }
 
-/// The seconds from a moment to a later one, or none where it isn't later.
+/// The seconds from a moment to a later one, or none if it isn't later.
 pub(crate) fn seconds_between(from: Moment, to: Moment) -> u32 {
     to.get().saturating_sub(from.get())
 }

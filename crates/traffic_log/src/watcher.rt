@@ -16,8 +16,8 @@ use std::fmt::Write;
 /// How many links are watched at a time: those of a server's places.
 const LINKS: usize = 8;
 
-/// What makes lines of the octets that pass over an air, both ways. It says no octet, and changes none. Takes no
-/// memory beside itself.
+/// What makes lines of the octets that pass over an air, both ways. It says no octet, and changes none. Takes no memory
+/// besides itself.
 #[derive(Drop)]
 pub struct Watcher<'a> {
     level: Level,
@@ -40,7 +40,7 @@ impl<'a> Watcher<'a> {
         Watcher::fresh(level, me, None)
     }
 
-    /// A watcher of the air of this station, a server's where there is a store, before anything passed.
+    /// A watcher of the air of this station, a server's if there is a store, before anything passed.
     fn fresh(level: Level, me: Call, store: Option<&'a str>) -> Watcher<'a> {
         let client = store.is_none();
         Watcher {
@@ -63,7 +63,7 @@ impl<'a> Watcher<'a> {
         wait_all(&mut self.links, moment, lines);
     }
 
-    /// Adds the lines of what these octets tell, which were heard at this moment.
+    /// Adds the lines of what these octets say, which were heard at this moment.
     pub fn heard(&mut self, octets: &[u8], moment: Moment, lines: &mut Lines) {
         for &octet in octets {
             let fed = self.heard.feed(octet);
@@ -73,7 +73,7 @@ impl<'a> Watcher<'a> {
         }
     }
 
-    /// Adds the lines of what these octets tell, which were said at this moment.
+    /// Adds the lines of what these octets say, which were said at this moment.
     pub fn said(&mut self, octets: &[u8], moment: Moment, lines: &mut Lines) {
         for &octet in octets {
             let fed = self.said.feed(octet);
@@ -143,7 +143,7 @@ fn link_with(links: &mut [Link], peer: Call) -> Option<&mut Link> {
     Some(link)
 }
 
-/// Adds that a station was refused since all places are taken, where this frame says so.
+/// Adds that a station was refused since all places are taken, if this frame says so.
 fn show_full(frame: &Frame<'_>, lines: &mut Lines) {
     if let Kind::Dm = frame.kind {
         let _ = write!(lines.line, "{} refused, all places are taken", frame.dest);

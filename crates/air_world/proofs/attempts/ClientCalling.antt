@@ -4,7 +4,7 @@ use Rattle.std.specs.Prelude.{if◌then◌else◌, ◌&&◌}
 use Rattle.air_world.proofs.attempts.Names.{not, nat_lt, same_Some, Control, Ua, Disc, Dm, FrameValue, Doing, DoesAll, abandon, after_doing, hang_up, push, Heard, Nothing, Opened, Reopened, Bytes, Closed, LinkState, Calling, Up, Down, Farewell, LinkEnd, Reply, call, oldest, outstanding, refuse, IsUnused, after_frame, calling_row, entering, replying, row_of_state, Drains, Sending, has_new, is_empty, last_sending, later_sending, sending_after, sends_again, sends_farewell, sends_new, sends_reply, after_tick, is_down, is_spent, is_up, runs_out, timer_reply, trying, Window}
 use Rattle.air_world.proofs.attempts.ClientRows.{StateAs}
 
--- where an end calls, it called before
+-- if an end calls, it called before
 pub called-before : (told : Heard) (before now : LinkState) → StateAs told before now → now ≡ Calling → before ≡ Calling
 called-before Nothing before now is calls = sym is ∙ calls
 called-before Opened before now is calls = absurd (let no : Up ≡ Calling = sym is ∙ calls in cc no)

@@ -1,4 +1,4 @@
--- The newest attempt of a client, once a frame of the server comes to its end of the link.
+-- The newest attempt of a client, once a frame of the server reaches its end of the link.
 use Rattle.std.proofs.Common.{◌≡◌, ℕ, List, true, Option, None, Some, refl}
 use Rattle.ftl0_client.specs.Attempt.Hearing.{hearing}
 use Rattle.ftl0_client.specs.Entries.{HearingLaw}

@@ -11,7 +11,7 @@ use Rattle.air_world.proofs.attempts.ListLemmas.{each-append}
 
 -- ---- what came
 
--- What is read of the pieces that came, once this was told of a frame with this information.
+-- What is read of the pieces that came, once this was reported of a frame with this information.
 record ReadsTold (a : Attempted) (pieces : List (List ℕ)) (information : List ℕ) (end : LinkEnd)
     (told : Heard) : Type 0 where
   packets : packets_of (concat (taken_as told pieces information)) ≡ packets_of (concat pieces) ++ packets_told told a
@@ -42,7 +42,7 @@ module _ (a : Attempted) (pieces : List (List ℕ)) (information : List ℕ) (en
 
 -- ---- the job
 
--- What comes to the client's side makes this of its end of the link, and these entries of the job; and that makes this
+-- What reaches the client's side makes this of its end of the link, and these entries of the job; and that makes this
 -- of the attempt.
 pub record Happens (lists last : Lists) (a : Attempted) (o : Outcome) (information : List ℕ) (entries : List JobEntry)
     (now : Attempted) : Type 0 where

@@ -1,4 +1,4 @@
--- The attempts of a client go with it, whatever comes to it.
+-- The attempts of a client go with it, whatever reaches it.
 use Rattle.std.proofs.Common.{◌≡◌, ℕ, List, [], ◌∷◌, map, Bool, true, false, Option, None, Some, refl, sym, ap, ◌∙◌}
 use Rattle.std.proofs.Common.{subst}
 use Rattle.std.specs.Prelude.{if◌then◌else◌}
@@ -21,7 +21,7 @@ use Rattle.air_world.proofs.attempts.ClientLink.{StepOf}
 use Rattle.air_world.proofs.attempts.ClientTicks.{tick-begins, tick-moves}
 use Rattle.air_world.proofs.attempts.ListLemmas.{all-at}
 
--- the laws of a client that these lean on
+-- the laws of a client that these use
 pub record Below : Type 0 where
   pub step : StepLaw
   pub hearing : HearingLaw
@@ -253,7 +253,7 @@ module _ (below : Below) (old new : Client) (noted : List NotesCommand) (frames 
 -- ---- whatever comes
 
 module _ (below : Below) (old new : Client) (noted : List NotesCommand) (frames : List FrameValue) where
-  -- what the newest attempt needs, where the client's link is its
+  -- what the newest attempt needs, if the client's link is its
   says-newest : (a : Attempt) (older : List Attempt) (before : Attempted)
       → ((b : Attempt) → Some a ≡ Some b → old.attempt ≡ Some b.client.attempted → MaySay old b)
       → old.attempt ≡ Some before → a.client.attempted ≡ before → SaysInRange old.lists a.client

@@ -6,7 +6,7 @@ use Rattle.ax25_link.specs.declared.state.Why.TheVariants as why
 use Rattle.air_world.proofs.attempts.Names.{cond_both, Control, I, Rr, Rnr, Rej, Sabm, Disc, Dm, Ua, Frmr, Ui, FrameValue, Meaning, applying, bad, good, is_bad, is_good, meaning_of, stale, Heard, Nothing, Opened, Reopened, Bytes, Closed, LinkState, Calling, Up, Down, LinkEnd, answering_end, ready, refuse, receive_number, heard_of_tick, Outcome, accepting, calling_row, down_row, ending_row, entering, information_row, is_call, numbered_row, out_of_sequence, outcome, passed_over, refusing, replying, row, row_of_state, sending_again, supervisory_row, up_row, with_busy, after_tick, is_down, is_spent, runs_out, told_of_tick, trying, Window, acknowledging-keeps}
 use Rattle.air_world.proofs.attempts.LinkKeeps.{taken_as}
 
--- the state once this was told
+-- the state once this was reported
 abbrev pub StateAs : Heard → LinkState → LinkState → Type 0
 StateAs Nothing before now = now ≡ before
 StateAs Opened before now = now ≡ Up
@@ -14,7 +14,7 @@ StateAs Reopened before now = now ≡ before
 StateAs Bytes before now = now ≡ before
 StateAs (Closed why) before now = now ≡ Down
 
--- Nothing was pushed; the piece came that is told of; and the state is as is told.
+-- Nothing was pushed; the piece that is reported came; and the state is as is reported.
 pub record Comes (information : List ℕ) (end : LinkEnd) (o : Outcome) : Type 0 where
   pub pushed : o.after.pushed ≡ end.pushed
   pub taken : o.after.taken ≡ taken_as o.heard end.taken information
@@ -32,7 +32,7 @@ module _ (f : FrameValue) where
   stays : (end : LinkEnd) → Row end (passed_over end)
   stays end = record { pushed = refl; taken = refl; state = refl }
 
-  -- an end like this one, but for what isn't spoken of
+  -- an end like this one, except for what isn't mentioned
   same-end : (end like : LinkEnd) (o : Outcome) → like.pushed ≡ end.pushed → like.taken ≡ end.taken
       → like.state ≡ end.state → Row like o → Row end o
   same-end end like o pushed taken state comes = record {
@@ -120,7 +120,7 @@ module _ (f : FrameValue) where
 
 -- ---- a tick
 
--- the end after a tick, and what is told of it
+-- the end after a tick, and what is reported of it
 abbrev pub tick_outcome : LinkEnd → Outcome
 tick_outcome end = outcome (after_tick end) (heard_of_tick (told_of_tick end))
 

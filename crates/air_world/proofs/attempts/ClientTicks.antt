@@ -29,7 +29,7 @@ no-texts (lost item row ∷ entries) items said = absurd (cc items)
 no-texts (passed item ∷ entries) items said = absurd (cc items)
 no-texts (queued due ∷ entries) items said = absurd (cc said)
 
--- behind an end that was never used there are no entries
+-- after an end that was never used there are no entries
 pub unused-entries : (side : ClientSide) → IsJob side → IsUnused side.attempted.end → side.entries ≡ []
 unused-entries side job unused =
     no-texts side.entries (sym job.packets ∙ ap (λ (pieces : List (List ℕ)). packets_of (concat pieces)) unused.taken

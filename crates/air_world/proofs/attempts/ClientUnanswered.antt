@@ -1,4 +1,4 @@
--- An attempt that no session answered: only DM comes to its end, which calls until it is down.
+-- An attempt that no session answered: only DM reaches its end, which calls until it is down.
 use Rattle.std.proofs.Common.{◌≡◌, ◌⊎◌, ℕ, ◌+◌, List, [], ◌∷◌, ◌++◌, Bool, true, false, None, Some, refl, inl, inr, sym}
 use Rattle.std.proofs.Common.{ap, ◌∙◌, subst}
 use Rattle.std.specs.Prelude.{if◌then◌else◌, ◌&&◌, ◌||◌}
@@ -42,7 +42,7 @@ does-nothing end last (doing ∷ doings) not_up does =
 
 -- ---- a DM
 
--- the entries that come of what was told
+-- the entries that follow from what was reported
 abbrev entries_by : Lists → Attempted → List ℕ → Outcome → List JobEntry
 entries_by lists a information o =
     entries_taken lists (after_told o.heard (with_end a o.after) information) (packets_told o.heard a information)

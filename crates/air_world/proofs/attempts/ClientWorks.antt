@@ -1,4 +1,4 @@
--- As long as nothing became of an attempt its link calls or is up; and where its link went down before an outcome, none
+-- As long as nothing became of an attempt its link calls or is up; and if its link went down before an outcome, none
 -- comes.
 use Rattle.std.proofs.Common.{◌≡◌, ◌⊎◌, ℕ, List, [], ◌∷◌, Bool, true, Option, None, Some, refl, inr, sym, ap, ◌∙◌}
 use Rattle.std.proofs.Common.{subst}
@@ -15,7 +15,7 @@ CallsOrUp state = (state ≡ Calling) ⊎ (state ≡ Up)
 abbrev Works : Attempted → Type 0
 Works a = a.job.ending ≡ None → CallsOrUp a.end.state
 
--- the attempt goes on: it isn't told down, no octets come, and it works still
+-- the attempt goes on: its link isn't reported down, no octets come, and it works still
 record GoesFrom (a now : Attempted) : Type 0 where
   down : now.down ≡ a.down
   rest : now.rest ≡ a.rest
@@ -98,7 +98,7 @@ goes-settled a =
     (goes-queued a (free_octets a.end)) (goes-parted (queuing (free_octets a.end) a)))
     (λ down. goes-same a)
 
--- where the link is down, nothing is done
+-- if the link is down, nothing is done
 pub settled-down : (a : Attempted) → a.end.state ≡ Down → settled a ≡ a
 settled-down a down = ap (λ (s : LinkState). if is_up s then parting_later (queuing (free_octets a.end) a) else a) down
 
@@ -114,7 +114,7 @@ none-outcome None None is = (refl, refl)
 none-outcome None (Some why) is = absurd (cc is)
 none-outcome (Some ending) down is = absurd (cc is)
 
--- the attempt at the end of an event, once this was told
+-- the attempt at the end of an event, once this was reported
 abbrev pub after_of : Lists → Attempted → LinkEnd → List ℕ → Heard → Attempted
 after_of lists a end octets told =
     settled (taking lists (after_told told (with_end a end) octets) (packets_told told a octets)).after
@@ -133,7 +133,8 @@ rest-kept lists a end octets told =
 
 module _ (lists : Lists) (a : Attempted) (end : LinkEnd) (octets : List ℕ) (keeps : KeepsWorking a)
     (told_down : IsToldDown a) where
-  -- It goes on from one that was told nothing of the link's end. Where the link went down before an outcome, none comes.
+  -- It goes on from one to which nothing of the link's end was reported. If the link went down before an outcome, none
+  -- comes.
   goes-on : (next : Attempted) (items : List Item) → next.down ≡ a.down → next.job ≡ a.job
       → (CallsOrUp a.end.state → CallsOrUp next.end.state)
       → ((why : Why) → a.down ≡ Some why → (settled (taking lists next items).after).job.ending ≡ None)
@@ -173,7 +174,7 @@ module _ (lists : Lists) (a : Attempted) (end : LinkEnd) (octets : List ℕ) (ke
   same-works : (before now : LinkState) → now ≡ before → CallsOrUp before → CallsOrUp now
   same-works before now same works = subst CallsOrUp (sym same) works
 
-  -- so it is after each event; a link that is down tells of nothing
+  -- so it is after each event; a link that is down reports nothing
   pub keeps-working : (told : Heard) → StateAs told a.end.state end.state → (a.end.state ≡ Down → told ≡ Nothing)
       → KeepsWorking (after_of lists a end octets told)
   keeps-working Nothing is silent =

@@ -1,4 +1,4 @@
--- The connection of a caller before a step of the server and behind it.
+-- The connection of a caller before a step of the server and after it.
 use Rattle.std.proofs.Common.{◌≡◌, inl, inr, ℕ, ◌<◌, List, length, Bool, true, false, None, Some, refl, sym, ap, ◌∙◌}
 use Rattle.air_world.proofs.attempts.Names.{is_some, slice_get, slice_set, same_Some, CallSign, slice_get-set_same, Connected, caller_of, Server, Slot, all_freed, connected, free, leaving, left_by, place_of, IsBetween, IsSeatedIn, connection_of, has_session}
 use Rattle.air_world.proofs.attempts.Places.{connection-is, connection-no, freed-seat, held, place-of-at, place-of-no}
@@ -37,7 +37,7 @@ module _ (old : Server) (between : IsBetween old) where
       connection-no caller old.slots
       (λ other slot that at is theirs. none other that (held-seat other slot that at is) theirs)
 
--- ---- behind a step
+-- ---- after a step
 
 -- A caller's connection when the server has sent all, whose session is over or isn't; and the server then, in which
 -- places are free whose sessions are over.
@@ -99,13 +99,13 @@ module _ (last new : Server) (caller : CallSign) (place : ℕ) (over : Bool) (c 
           cc)
       by false goes = goes
 
-  -- the caller's connection between events is this one, where it has one
+  -- the caller's connection between events is this one, if it has one
   pub new-seat : (other : ℕ) (d : Connected) → IsSeatedIn new other d → caller_of d ≡ caller → (over ≡ false) × (c ≡ d)
   new-seat other d there mine =
       seat-here other d (freed-seat last.slots other d
       (ap (λ (s : List Slot). slice_get s other) (sym behind.new_are) ∙ there)) mine
 
-  -- it has none where the session is over
+  -- it has none if the session is over
   pub none-over : place_of caller new.slots ≡ None → has_session last (caller_of c) ≡ false
   none-over none = by over refl
     where
@@ -118,7 +118,7 @@ module _ (last new : Server) (caller : CallSign) (place : ℕ) (over : Bool) (c 
           (ap (λ (s : List Slot). slice_get s place) behind.new_are
           ∙ seat-freed last.slots place c (behind.here ∙ ap (λ (b : Bool). Some (left_by b c)) goes)) behind.caller_is)
 
--- so it is behind a step that changed the caller's place alone
+-- so it is after a step that changed the caller's place alone
 pub place-behind : (old last new : Server) → IsBetween old → (caller : CallSign) (place : ℕ) (now : Slot)
     → place < length old.slots
     → last.slots ≡ slice_set old.slots place now → new.slots ≡ all_freed last.slots → Resits old caller place now

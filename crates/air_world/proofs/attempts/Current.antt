@@ -59,7 +59,7 @@ pub record HasSession (a : Attempt) (c : Connected) : Type 0 where
   pub connected_is : side.connected ≡ c
   pub is_up : side.is_up ≡ true
 
--- so it is where the caller has a connection, and a frame of the attempt comes that is no SABM
+-- so it is if the caller has a connection, and a frame of the attempt comes that is no SABM
 pub newest-served : (me server : CallSign) (a : Attempt) (older : List Attempt) (c : Connected) (place : ℕ)
     (t : Transmission) → IsAttempt me server a
     → IsAt a.by_client place t → is_call (control_of t) ≡ false → IsNewestSession c (a ∷ older) → HasSession a c

@@ -5,7 +5,7 @@ use Rattle.ftl0_client.specs.Entries as job
 use Rattle.air_world.proofs.attempts.Names.{AllByRecursion, concat, map-append, CallSign, IsFront, texts, Fits, Item, PacketValue, packets_of, read_front, Transmission, LinkEnd, AreLinked, prefix_law, Attempt, IsAnswered, IsAttempt, client_station, server_station, FrontLaw, AreFirstOf, ServerSide, said_by_client, said_by_server}
 use Rattle.air_world.proofs.attempts.ServerLink.{answered-by, taken-front}
 
--- a front of the texts of packets that fit is read as the first of them
+-- a prefix of the texts of packets that fit is read as the first of them
 first-read : (packets : List PacketValue) (front : List ℕ) → AllByRecursion Fits packets
     → IsFront front (texts packets) → AreFirstOf (packets_of front) (map Ok packets)
 first-read packets front fits is =
@@ -21,8 +21,8 @@ first-of_first : {X : Type 0} (xs ys all some : List X) → AreFirstOf some all 
 first-of_first xs ys all some is same =
     (ys ++ is.0, is.1 ∙ ap (λ (l : List _). l ++ is.0) same ∙ append_assoc xs ys is.0)
 
--- Where the client's end and an end of the server's are linked, the packets of what the latter accepted are the first
--- of what the client said, and so are these, the first of them.
+-- If the client's end and an end of the server's are linked, the packets of what the latter accepted are the first of
+-- what the client said, and so are these, the first of them.
 pub took-first : (me server : CallSign) (a : Attempt) (list more : List Transmission) (last : LinkEnd)
     (items unread : List Item) → IsAttempt me server a
     → AreLinked a.window (record { end = a.client.attempted.end; transmissions = list })
@@ -40,7 +40,7 @@ module _ (me server : CallSign) (a : Attempt) (side : ServerSide) (is : IsAttemp
       took-first me server a a.by_client a.by_server side.connected.end (session.items_in side.entries)
       answered.session.unread is answered.linked answered.session.packets
 
-  -- what the client's end accepted is a front of what the server's side said
+  -- what the client's end accepted is a prefix of what the server's side said
   client-front : IsFront (concat a.client.attempted.end.taken) (texts (said_by_server side))
   client-front =
       subst (IsFront (concat a.client.attempted.end.taken)) answered.session.said

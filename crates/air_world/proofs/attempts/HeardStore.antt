@@ -9,7 +9,7 @@ use Rattle.air_world.proofs.attempts.ServerHears.{after_of, behind}
 use Rattle.air_world.proofs.attempts.ServerPlaces.{heard-place}
 use Rattle.air_world.proofs.attempts.ServerStays.{IsHeard, frame-cases, heard-at, stranger-store}
 
--- what happens where the sender's connection hears the frame
+-- what happens if the sender's connection hears the frame
 happens-at : (old : Server) (frame : FrameValue) (moment place : ℕ) (c : Connected)
     → place_of frame.src old.slots ≡ Some place → IsSeatedIn old place c
     → happening old (hears frame moment) [] ≡ heard_at old place

@@ -1,4 +1,4 @@
--- The fields of all packets that a job says have their ranges, where its work's have and the notes go with it.
+-- The fields of all packets that a job says have their ranges, if its work's have and the notes go with it.
 use Rattle.std.proofs.Common.{◌≡◌, ℕ, ◌^◌, ◌<◌, List, [], ◌∷◌, ◌++◌, length, drop, Option, None, Some, Ok, Err, refl}
 use Rattle.std.proofs.Common.{sym, ap, ◌∙◌, subst, arith, lit<}
 use Rattle.std.specs.Prelude.{◌==◌}
@@ -17,7 +17,7 @@ use Rattle.ftl0_client_job.proofs.Offered.{download-rows, job-in, stays-item, up
 use Rattle.air_world.proofs.attempts.Names.{nat_lt, AllByRecursion, option_map, cond_both, length-take, same_Some, IsOctets, kind_of_item, Fits, Item, PacketValue, data_end, data_part, dir_short_cmd, dl_error_resp, login_resp, select_resp, IsOctets-drop, IsOctets-take, after_all, Lists, got_of, Ending, Work, DuePacket, due_by, due_from, due_in, in_job, in_work, most_data, GoBy, GoWith, HasGot, HasTask, NotesGoWith, number_in, JobState, item_row, job_after, job_row, GoesBy, JobEntry, after_losing, lost, passed, queued, said_in, took, WorkFits, IsJobRow, JobReaches}
 use Rattle.air_world.proofs.attempts.ListLemmas.{each-append}
 
--- the replies of a row fit, where so many octets of a file at most were got, and its work does
+-- the replies of a row fit, if at most this number of octets of a file were got, and its work does
 record RowFits {S : Type 0} (made : S → Work) (row : Row S) : Type 0 where
   replies : AllByRecursion Fits row.replies
   work : WorkFits (made row.state)

@@ -85,7 +85,7 @@ does-taken end last (doing ∷ doings) does = does-taken (after_doing end doing)
 
 -- ---- what a frame brings
 
--- the pieces that came, once a frame with this information did, by what the link tells
+-- the pieces that came, once a frame with this information did, by what the link reports
 abbrev pub taken_as : Heard → List (List ℕ) → List ℕ → List (List ℕ)
 taken_as Nothing taken information = taken
 taken_as Opened taken information = taken
@@ -93,7 +93,7 @@ taken_as Reopened taken information = taken
 taken_as Bytes taken information = taken ++ information ∷ []
 taken_as (Closed why) taken information = taken
 
--- no further SABM is told of
+-- no further SABM is reported
 abbrev pub IsNoReopening : Heard → Type 0
 IsNoReopening Nothing = ⊤
 IsNoReopening Opened = ⊤
@@ -101,7 +101,7 @@ IsNoReopening Reopened = ⊥
 IsNoReopening Bytes = ⊤
 IsNoReopening (Closed why) = ⊤
 
--- What a frame brings: nothing is pushed, and the piece comes that is told of.
+-- What a frame brings: nothing is pushed, and the piece that is reported comes.
 pub record Brings (frame : FrameValue) (end : LinkEnd) (o : Outcome) : Type 0 where
   pub pushed : o.after.pushed ≡ end.pushed
   pub taken : o.after.taken ≡ taken_as o.heard end.taken frame.kind.information

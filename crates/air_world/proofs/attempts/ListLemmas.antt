@@ -85,7 +85,7 @@ one-from P [] x has holds = has
 one-from P (y ∷ ys) x (inl same) holds = inl (subst P (sym same) holds)
 one-from P (y ∷ ys) x (inr has) holds = inr (one-from P ys x has holds)
 
--- what stands at a place is one of the list
+-- what is at a place is one of the list
 pub has-at : {X : Type 0} (xs : List X) (place : ℕ) (x : X) → slice_get xs place ≡ Some x → Has xs x
 has-at [] place x there = absurd (cc)
 has-at (y ∷ ys) zero x there = inl (same_Some y x there)
@@ -106,7 +106,7 @@ all-at P [] place x all is = absurd (cc is)
 all-at P (y ∷ xs) zero x all is = subst P (same_Some y x is) all.0
 all-at P (y ∷ xs) (suc place) x all is = all-at P xs place x all.1 is
 
--- each is so, if what stands at any place is
+-- each is so, if what is at any place is
 pub all-by : {X : Type 0} (P : X → Type 0) (xs : List X)
     → ((place : ℕ) (x : X) → slice_get xs place ≡ Some x → P x) → AllByRecursion P xs
 all-by P [] holds = tt
@@ -126,7 +126,7 @@ set-at (z ∷ zs) (suc i) (suc j) x y at = by (set-at zs i j x y at)
     by (inl same) = inl (ap suc same.0, same.1)
     by (inr other) = inr (λ same. other.0 (omega (arith, same)), other.1)
 
--- where the one that is so stands
+-- the place of the one that is so
 pub one-placed : {X : Type 0} (P : X → Type 0) (xs : List X) → OneIs P xs
     → (place : ℕ) × (x : X) × (slice_get xs place ≡ Some x) × P x
 one-placed P [] one = absurd one

@@ -1,4 +1,4 @@
--- Packets, their texts and their octets, one list behind another.
+-- Packets, their texts and their octets, one list after another.
 use Rattle.std.proofs.Common.{◌≡◌, ℕ, ◌+◌, ◌*◌, ◌/◌, ◌%◌, ◌<◌, List, [], ◌∷◌, ◌++◌, length, ◌∙◌, ap, subst, arith, lit<}
 use Rattle.std.proofs.Common.{refl}
 use Rattle.px_base.specs.Numbers.{le16_octets, le32_octets}
@@ -35,7 +35,7 @@ octets-32 n later h =
 one-octet : (n : ℕ) → n < 256 → IsOctets (n ∷ [])
 one-octet n h = IsOctets-cons n [] h IsOctets-nil
 
--- what stands of a packet's information, where each of its fields has its range
+-- what is true of a packet's information, if each of its fields has its range
 record HasInformation (packet : PacketValue) : Type 0 where
   kind : kind_of packet < 32
   few : length (information packet) < 2048
@@ -91,7 +91,7 @@ octets-texts [] fits = IsOctets-nil
 octets-texts (packet ∷ packets) fits =
     IsOctets-append (packet_text packet) (texts packets) (octets-text packet fits.0) (octets-texts packets fits.1)
 
--- the octets of a front of the texts of packets
+-- the octets of a prefix of the texts of packets
 pub octets-of_front : (packets : List PacketValue) (front : List ℕ) → AllByRecursion Fits packets
     → IsFront front (texts packets) → IsOctets front
 octets-of_front packets front fits is =
@@ -100,7 +100,7 @@ octets-of_front packets front fits is =
 -- ---- a further piece
 
 -- What is read of pieces and a further one: the packets of all but the last, and then those of the rest with the last
--- one behind it.
+-- one after it.
 pub record ReadsOn (pieces : List (List ℕ)) (piece : List ℕ) : Type 0 where
   pub packets : packets_of (concat (pieces ++ piece ∷ [])) ≡ packets_of (concat pieces) ++ packets_of
       (rest_of (concat pieces) ++ piece)

@@ -136,7 +136,7 @@ module _ (caller : CallSign) (slots : List Slot) where
       let it = callers-place caller slot passes in
       none other it.c (at ∙ ap Some it.is) it.caller_is)
 
--- ---- the caller's connection, also where its session is over
+-- ---- the caller's connection, also if its session is over
 
 -- a place that has a connection of the caller
 pub record IsHolding (caller : CallSign) (slot : Slot) : Type 0 where

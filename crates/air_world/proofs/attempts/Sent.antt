@@ -41,7 +41,7 @@ stations-to called me peer end is = record {
   peer_is = ap (λ (s : Stations). s.peer) is;
 }
 
--- an end that stays of its stations, and what it sends behind what was sent
+-- an end that stays of its stations, and what it sends after what was sent
 pub record StaysOf (w : Window) (called : Bool) (me peer : CallSign) (list : List Transmission)
     (frames : List FrameValue) (new : LinkEnd) : Type 0 where
   pub end : IsEndOf called me peer new

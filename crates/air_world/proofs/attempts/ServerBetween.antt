@@ -1,4 +1,4 @@
--- Between events a server is as it was before, but for the connections that a step changed.
+-- Between events a server is as it was before, except for the connections that a step changed.
 use Rattle.std.proofs.Common.{◌≡◌, ◌≢◌, ◌⊎◌, inl, inr, ℕ, ◌<◌, List, [], length, Some, refl, sym, ap, subst, ◌∙◌}
 use Rattle.ftl0_server.specs.StepLaws.Steps as server
 use Rattle.air_world.proofs.attempts.Names.{slice_get, slice_set, length-map, length-set, CallSign, Up, IsWindow, Window, NodeEvent, Connected, caller_of, Server, ServerStep, Stepped, Slot, all_freed, connected, leaving, IsBetween, IsKnown, IsSeatedIn}

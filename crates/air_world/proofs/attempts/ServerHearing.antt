@@ -1,5 +1,4 @@
--- What a frame makes of a server's connection that is up: its caller stays, and where the session goes on its link is
--- up.
+-- What a frame makes of a server's connection that is up: its caller stays, and if the session goes on its link is up.
 use Rattle.std.proofs.Common.{◌≡◌, ℕ, List, [], Bool, true, false, refl, sym, ap, subst, ◌∙◌}
 use Rattle.std.specs.Prelude.{if◌then◌else◌}
 use Rattle.ax25_link.specs.LinkStep as step
@@ -36,7 +35,7 @@ module _ (moment : ℕ) (store : Store) (lists : List CallerList) (c : Connected
       progressed (rest_as o.heard c frame.kind.information)
       (queued store [] (parts_as o.heard moment store lists c o.after frame.kind.information []))
 
-  -- an end that answered begins anew, and LOGIN_RESP is queued
+  -- an end that answered begins again, and LOGIN_RESP is queued
   abbrev pub reopened : Happened
   reopened =
       record {
@@ -89,7 +88,7 @@ module _ (moment : ℕ) (store : Store) (lists : List CallerList) (c : Connected
 
 -- ---- any frame
 
--- where it isn't over, what is due leaves the link up
+-- if it isn't over, what is due leaves the link up
 queued-up : (store : Store) (progress : Progress) → (progress.over ≡ false → progress.end.state ≡ Up) → (over : Bool)
     → progress.over ≡ over
     → (if over then progress else queuing (free_octets progress.end) (after_all store progress.done) [] progress).over
@@ -174,7 +173,7 @@ pub slot-ends : (w : Window) (over : Bool) (c : Connected) (frames : List FrameV
 slot-ends w true c frames now drains = record { last = drains.0; drains = drains.1; now_is = drains.2 }
 slot-ends w false c frames now drains = record { last = drains.0; drains = drains.1; now_is = drains.2 }
 
--- it has a connection where the session isn't over
+-- it has a connection if the session isn't over
 pub left-connected : (over : Bool) (c now : Connected) → left_by over c ≡ connected now → (over ≡ false) × (c ≡ now)
 left-connected true c now is = absurd cc
 left-connected false c now is = (refl, cc)

@@ -5,7 +5,7 @@ use Rattle.air_world.proofs.attempts.Names.{IfSome, concat, CallSign, IsFront, I
 use Rattle.air_world.proofs.attempts.PacketLists.{octets-of_front}
 use Rattle.air_world.proofs.attempts.Sent.{stays-of}
 
--- what an attempt is by its session
+-- an attempt that has this session is answered by it
 pub answered-by : (me server : CallSign) (a : Attempt) (side : ServerSide) → IsAttempt me server a
     → a.server ≡ Some side → IsAnswered a side
 answered-by me server a side is has = by a.server has is.answered
@@ -21,7 +21,7 @@ abbrev pub gone : Attempt → ServerSide → List Transmission → List FrameVal
 gone a side list frames =
     record a { server = Some side; by_client = list; by_server = sending_all a.by_server frames }
 
--- What an attempt needs to go on so: its client's transmissions are as they were but for a delivery, the ends are
+-- What an attempt needs to go on so: its client's transmissions are as they were except for a delivery, the ends are
 -- linked still, and the session went on.
 pub record GoesOn (me server : CallSign) (a : Attempt) (old new : ServerSide) (list : List Transmission)
     (frames : List FrameValue) : Type 0 where
@@ -104,7 +104,7 @@ link-ticks me server a side heard doings frames last is has up steps =
     prefix_law.turned a.window (record { end = last; transmissions = sending_all a.by_server frames })
     (client_station a) on
 
--- What the session's end accepted is a front of what the client said, and so octets.
+-- What the session's end accepted is a prefix of what the client said, and so octets.
 module _ (me server : CallSign) (a : Attempt) (list more : List Transmission) (last : LinkEnd)
     (is : IsAttempt me server a)
     (linked : AreLinked a.window (record { end = a.client.attempted.end; transmissions = list })

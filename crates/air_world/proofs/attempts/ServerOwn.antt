@@ -1,4 +1,4 @@
--- A frame of a client comes to its session: the current attempt goes on.
+-- A frame of a client reaches its session: the current attempt goes on.
 use Rattle.std.proofs.Common.{◌≡◌, ℕ, List, [], Bool, true, false, Some, refl, sym, ap, subst}
 use Rattle.ax25_link.specs.LinkStep as step
 use Rattle.ftl0_server.specs.Entries as session

@@ -1,4 +1,4 @@
--- A frame that no session hears is passed over, or answered by DM.
+-- A frame that no session hears is ignored, or answered by DM.
 use Rattle.std.proofs.Common.{◌≡◌, ◌⊎◌, inl, inr, ℕ, List, [], ◌∷◌, Bool, true, false, Option, None, Some, refl, sym}
 use Rattle.std.proofs.Common.{ap, ap₂, subst, ◌∙◌, arith}
 use Rattle.std.specs.Prelude.{◌&&◌}

@@ -46,7 +46,7 @@ module _ (old : Server) (event : NodeEvent) (gives : Stepped) (step : ServerStep
   stray-none : old.stray ≡ None
   stray-none = (silent-by old old.stray step.silent).0
 
-  -- what the step keeps, where what happened keeps the call and the window
+  -- what the step keeps, if what happened keeps the call and the window
   step-keeps : after.me ≡ old.me → after.window ≡ old.window → Keeps old after gives step.last
   step-keeps me window =
       let new_is : gives.new ≡ record after { slots = all_freed sent.slots; stray = None } =

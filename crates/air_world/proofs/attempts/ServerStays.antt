@@ -86,7 +86,7 @@ module _ (old : Server) (frame : FrameValue) (moment : ℕ) (gives : Stepped)
     pub changes : ChangesNone old (hears frame moment) gives step
         (refusals old.me (hearing_stranger old frame moment).stray)
 
-  -- so it does where it is at this place
+  -- so it does if it is at this place
   pub heard-at : (place : ℕ) (c : Connected) → place_of frame.src old.slots ≡ Some place → IsSeatedIn old place c
       → (h : IsHeard) × (h.c ≡ c)
   heard-at place c is there =

@@ -26,7 +26,7 @@ module _ (old : Server) (moment : ℕ) (gives : Stepped) (step : ServerStep old 
   changes : ChangesAll old (ticks moment) gives step ticked
   changes = tick-places old moment gives step
 
-  -- ---- connections behind it
+  -- ---- connections after it
 
   -- A connection was at its place before, and its session went on.
   pub record TickSeat (place : ℕ) (c : Connected) : Type 0 where

@@ -9,7 +9,7 @@ use Rattle.air_world.proofs.attempts.LinkKeeps.{IsNoReopening, does-taken, drain
 use Rattle.air_world.proofs.attempts.PacketLists.{reads-on}
 use Rattle.air_world.proofs.attempts.ListLemmas.{each-append}
 
--- ---- entries behind others
+-- ---- entries after others
 
 pub reaches-then : (caller : CallSign) (state mid now : State) (some more : List SessionEntry)
     → AllByRecursion IsNotLost some
@@ -23,7 +23,7 @@ reaches-then caller state mid now (session.lost item row ∷ some) more all firs
 reaches-then caller state mid now (session.queued due ∷ some) more all first second =
     (first.0, reaches-then caller due.state mid now some more all.1 first.1 second)
 
--- entries that go by the store and the lists of a moment
+-- entries that follow from the store and the lists of a moment
 pub goes-reaches : (caller : CallSign) (moment : ℕ) (before now : Session) (entries : List SessionEntry)
     → GoesBy caller moment before entries now
     → SessionReaches caller before.state entries now.state
@@ -50,7 +50,7 @@ said-then some more = flat_map-append session.packets_said some more
 
 -- ---- what is read
 
--- the packets and the rest of the octets that came, once the link told this of a frame
+-- the packets and the rest of the octets that came, once the link reported this of a frame
 record ReadsTold (told : Heard) (c : Connected) (taken : List (List ℕ)) (octets : List ℕ) : Type 0 where
   packets : packets_of (concat (taken_as told taken octets)) ≡ packets_of (concat taken) ++ packets_told told c octets
   rest : rest_as told c octets ≡ rest_of (concat (taken_as told taken octets))
@@ -131,7 +131,7 @@ module _ (w : Window) (moment : ℕ) (store : Store) (lists : List CallerList) (
       before = is.packets ∙ ap (λ (u : List Item). session.items_in side.entries ++ u) (is.all none)
           ∙ append-nil (session.items_in side.entries)
 
-      -- the packets of all octets that came, with those that the session didn't take behind
+      -- the packets of all octets that came, followed by those that the session didn't take
       pub packets-are : packets_of (concat last.taken) ≡ session.items_in (side.entries ++ entries) ++ h.heard.unread
       packets-are =
           ap (λ (t : List (List ℕ)). packets_of (concat t)) taken-is ∙ read.packets

@@ -27,7 +27,7 @@ tick-leaves end =
     (λ s. record { pushed = refl; taken = refl }) (λ s. record { pushed = refl; taken = refl }))
     (λ out. record { pushed = refl; taken = refl }))
 
--- it is up still where it isn't told down
+-- it is up still if it isn't reported down
 tick-by : (end : LinkEnd) (out spent : Bool) → end.state ≡ Up
     → is_there (if out && spent then Some why.NoAnswer else None) ≡ false
     → (if out then (if spent then entering end Down else trying end) else record end { count = end.count + 1 }).state

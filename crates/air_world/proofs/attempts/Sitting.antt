@@ -1,4 +1,4 @@
--- A caller's attempts and its place in the server, where the step didn't change it.
+-- A caller's attempts and its place in the server, if the step didn't change it.
 use Rattle.std.proofs.Common.{◌≡◌, ◌≢◌, inl, inr, ℕ, ◌<◌, List, length, sym, ap, subst, ◌∙◌}
 use Rattle.air_world.proofs.attempts.Names.{slice_get, slice_set, AllByRecursion, CallSign, Window, slice_get-set_other, Connected, caller_of, Server, Slot, all_freed, Attempt, AreAttempts, Calls, IsBetween, IsSeatedIn, SitsBy}
 use Rattle.air_world.proofs.attempts.Places.{place-of-at, place-of-is, place-of-no, place-of-not, same-seat, seat-freed}

@@ -6,7 +6,7 @@ use Rattle.air_world.proofs.attempts.ListLemmas.{each-append}
 
 -- ---- a delivery
 
--- what stands of each stands still, where it doesn't look at whether it was delivered
+-- what is true of each is true still, if it doesn't look at whether it was delivered
 module _ (P : Transmission → Type 0) (marked : (t : Transmission) → P t → P (record t { delivered = true })) where
   pub all-delivered : (list : List Transmission) (place : ℕ) (t : Transmission) → IsAt list place t
       → AllByRecursion P list
@@ -59,7 +59,7 @@ from-of w stations frame window is =
     let low = numbers-below w frame.kind.control window is.numbers in
     record { src_is = is.src; dest_is = is.dest; via = is.via; sends = low.0; acks = low.1 }
 
--- frames of these stations behind those that were sent
+-- frames of these stations after those that were sent
 pub from-sent : (w : Window) (stations : Stations) (list : List Transmission) (frames : List FrameValue) → IsWindow w
     → AreFromTo w stations.me stations.peer list → AllByRecursion (IsFrameOf w stations) frames
     → AreFromTo w stations.me stations.peer (sending_all list frames)
@@ -67,7 +67,7 @@ from-sent w stations list frames window before new =
     all-sent (IsFrameOf w stations) (λ t. IsFromTo w stations.me stations.peer t.frame)
     (λ frame is. from-of w stations frame window is) list frames before new
 
--- frames without a SABM behind one
+-- frames without a SABM, one by one
 no-call-all : (frames : List FrameValue) → HasNoCall frames
     → AllByRecursion (λ (f : FrameValue). is_call f.kind.control ≡ false) frames
 no-call-all [] none = none

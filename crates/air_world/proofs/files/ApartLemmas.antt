@@ -39,7 +39,7 @@ pub record HasClientFacts (party : Party) (a : Attempt) : Type 0 where
   pub fetched : HasFetched party a
   pub asked_within : AskedWithin party a
 
--- the facts of a client, those of its sessions and attempts each by itself
+-- the facts of a client, those of its sessions and attempts each on its own
 pub record HasFactsApart (store : Store) (files : List Asked) (party : Party) : Type 0 where
   pub numbered :
       (task number : ℕ) (file : List ℕ) → HasNumber party task number → IsFileOf files party task file

@@ -10,7 +10,7 @@ use Rattle.air_world.proofs.files.FetchesOn.{ComesOn, coming-more, octets-behind
 
 -- ---- what a client asked
 
--- a word is no command
+-- DL_ACK_CMD and DL_NAK_CMD are no DOWNLOAD_CMD
 pub word-other : (word : PacketValue) (number offset : ℕ) → IsWord word → word ≢ download_cmd number offset 0
 word-other word number offset (inl is) same =
     absurd (let no : dl_ack_cmd ≡ download_cmd number offset 0 = sym is ∙ same in cc)
@@ -58,7 +58,7 @@ front-if-any store number file (octet ∷ octets) is_file first =
 
 module _ (store : Store) (party : Party) (a : Attempt) (old : ServerSide) (number offset : ℕ) (file : List ℕ)
     (parts : List (List ℕ)) where
-  -- so many octets came and come
+  -- this number of octets came and come
   came-length : IsGreeting old.greeting → session.said_in old.entries ≡ map data_part parts → ClientTookFront a old
       → length (octets_taken (job.items_in a.client.entries)) + length (coming_by a (Some old)) ≡ length (concat parts)
   came-length greets said heard =
@@ -80,7 +80,7 @@ module _ (store : Store) (party : Party) (a : Attempt) (old : ServerSide) (numbe
       ∙ length-append (got party at.number ++ at.rest) (coming_by a (Some old)) in
       omega (arith, all, came, fetches.counted, from)
 
--- octets that lead up to a place, and those behind it
+-- octets that lead up to a place, and those after it
 goes-on : (octets file left : List ℕ) (place : ℕ) → IsFront octets file → length octets ≡ place → drop place file ≡ left
     → file ≡ octets ++ left
 goes-on octets file left place front long is =

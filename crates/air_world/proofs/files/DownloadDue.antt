@@ -1,4 +1,4 @@
--- What a session of a download sends of itself: the rest of the file, piece by piece, and then DATA_END.
+-- What a session of a download sends without being asked: the rest of the file, piece by piece, and then DATA_END.
 use Rattle.std.proofs.Common.{◌≡◌, ℕ, ◌+◌, ◌-◌, ◌≤◌, ◌==◌, min, List, [], ◌∷◌, ◌++◌, length, take, drop, refl, ap, sym}
 use Rattle.std.proofs.Common.{◌∙◌, false, Some, arith, length-append, length-drop, length-take, append_assoc}
 use Rattle.std.proofs.Common.{append-nil, take-append-drop, add-zero}
@@ -7,7 +7,7 @@ use Rattle.ftl0_session.specs.Downloads.Table as download
 use Rattle.ftl0_session.specs.Table.{DuePacket}
 use Rattle.air_world.proofs.files.Names.{concat, nat_tests, drop-drop, drop-append-add, data_end, data_part, Store, most_data, octets_due, file_of, next_due, sending, waiting, take-all, file-complete, AreAllSent, AreSentFrom}
 
--- the packet that goes on with the file, where these octets of it are left
+-- the packet that goes on with the file, if these octets of it are left
 abbrev pub rest_due : ℕ → ℕ → ℕ → List ℕ → DuePacket
 rest_due number place last [] = record { packet = data_end; state = waiting }
 rest_due number place last (octet ∷ octets) =
@@ -36,7 +36,7 @@ module _ (store : Store) (number : ℕ) (file : List ℕ) (is_file : file_of sto
           let left : (length (octet ∷ octets) == 0) ≡ false = grind (arith, nat_tests) in
           rw some (rw left refl)
 
--- what is left of the file behind what was sent
+-- what is left of the file after what was sent
 module _ (store : Store) (number offset : ℕ) (file : List ℕ) (parts : List (List ℕ))
     (sent : AreSentFrom store number offset file parts) where
   abbrev pub place_then : ℕ

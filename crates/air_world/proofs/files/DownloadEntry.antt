@@ -1,4 +1,5 @@
--- An entry of a session of a download is one of few: a command that is refused or granted, the word, or what is due.
+-- An entry of a session of a download is one of few: a command that is refused or granted, DL_ACK_CMD or DL_NAK_CMD, or
+-- what is due.
 use Rattle.std.proofs.Common.{◌≡◌, ◌⊎◌, inl, inr, ℕ, ◌≤◌, List, [], ◌∷◌, ◌++◌, length, refl, ap, sym, ◌∙◌, subst, Bool}
 use Rattle.std.proofs.Common.{true, false, Option, None, Some}
 use Rattle.ftl0_session.specs.Table.{Row}

@@ -168,7 +168,7 @@ module _ (store : Store) (files : List Asked) (c : ℕ) (base : Party) (a : Atte
           packet-kept store files base a older number side it does.rest does.phase_is packet (does.came none)
           (fetching-in none) next
 
-      -- what is fetched behind its row
+      -- what is fetched after its row
       fetching-row : now.job ≡ job_after (row_of work.Download row_is)
           → FetchesBy now.job.ending now.job.work store
           (new (took (Ok packet) (row_of work.Download row_is)) (after_all lists row_is.commands) now)

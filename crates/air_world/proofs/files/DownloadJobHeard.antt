@@ -1,4 +1,4 @@
--- What a packet that a client of a download takes tells of what its session has said.
+-- What a packet that a client of a download takes shows of what its session has said.
 use Rattle.std.proofs.Common.{◌≡◌, ◌≢◌, inl, inr, ℕ, List, [], ◌∷◌, ◌++◌, length, map, drop, refl, ap, sym, ◌∙◌, subst}
 use Rattle.std.proofs.Common.{Ok, append_assoc, append-nil}
 use Rattle.ftl0_server.specs.Entries as session
@@ -9,7 +9,7 @@ use Rattle.air_world.proofs.files.FetchesOn.{octets-all}
 
 -- ---- the packet among those that were said
 
--- What comes next stands behind what was taken.
+-- What comes next is after what was taken.
 pub record IsNext (items : List Item) (packet : PacketValue) (said : List PacketValue) : Type 0 where
   pub before : List PacketValue
   pub after : List PacketValue
@@ -48,14 +48,14 @@ module _ (items : List Item) (packet : PacketValue) (said : List PacketValue) (n
   pub taken-octets : octets_taken items ≡ octets_said next.before
   taken-octets = ap octets_taken next.items_are ∙ octets-all next.before
 
-  -- those that come, of this packet and behind it
+  -- those that come, of this packet and after it
   pub coming-octets : octets_said (drop (length items) said) ≡ octets_of_data packet ++ octets_said next.after
   coming-octets =
       ap (λ (l : List Item). octets_said (drop (length l) said)) next.items_are
       ∙ ap (λ (l : List PacketValue). octets_said (drop (length (map {B = Item} Ok next.before)) l)) next.said_is
       ∙ ap octets_said (drop-before next.before (packet ∷ next.after))
 
-  -- and behind it alone
+  -- and after it alone
   pub left-octets : octets_said (drop (length (items ++ Ok packet ∷ [])) said) ≡ octets_said next.after
   left-octets =
       let items_now : items ++ Ok packet ∷ [] ≡ map Ok (next.before ++ packet ∷ []) =
@@ -187,7 +187,7 @@ before-end (part ∷ parts) more (x ∷ before) after none is =
     ap (λ (p : PacketValue). octets_of_data p ++ octets_said before) first
     ∙ ap (λ (l : List ℕ). part ++ l) (before-end parts more before after none rest)
 
--- A session that said DATA_END has sent all: so many octets were taken before it.
+-- A session that said DATA_END has sent all: this number of octets was taken before it.
 pub record HasSentAll (store : Store) (number : ℕ) (side : ServerSide) (octets : List ℕ) : Type 0 where
   pub offset : ℕ
   pub file : List ℕ

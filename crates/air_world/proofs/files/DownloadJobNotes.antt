@@ -50,7 +50,7 @@ module _ (store : Store) (files : List Asked) (base : Party) (a : Attempt) (olde
   abbrev items : List Item
   items = job.items_in a.client.entries
 
-  -- the entry of a packet with this row, the attempt and the client behind it
+  -- the entry of a packet with this row, the attempt and the client after it
   abbrev entry_of_row : PacketValue → Row Download → JobEntry
   entry_of_row packet row = job.took (Ok packet) (row_of work.Download row)
 

@@ -10,7 +10,7 @@ use Rattle.air_world.proofs.files.Names.{nat_lt, CallSign, PacketValue, data_end
 abbrev pub download_at : CallSign → ℕ → List ℕ → DownloadPhase → Download
 download_at server number rest p = record { server = server; number = number; rest = rest; phase = p }
 
--- it holds of each row of a download, by how far it has come and by the packet, where these octets were noted
+-- it is true of each row of a download, by how far it has come and by the packet, if these octets were noted
 pub record DownloadCases (server : CallSign) (number : ℕ) (held rest : List ℕ)
     (P : DownloadPhase → PacketValue → Row Download → Type 0) : Type 0 where
   pub strange_rows : (p : DownloadPhase) (packet : PacketValue) (kind : ℕ)
@@ -66,7 +66,7 @@ module _ (server : CallSign) (number : ℕ) (held rest : List ℕ) (P : Download
   done-case dl_completed_resp = each.done
   done-case packet = each.strange_rows phase.Done packet (kind_of packet)
 
-  -- so it holds of what any packet gives
+  -- so it is true of what any packet gives
   pub download-cases : (p : DownloadPhase) (packet : PacketValue) → P p packet (download_row held (at p) packet)
   unfolding download_row
   download-cases phase.Login packet = login-case packet

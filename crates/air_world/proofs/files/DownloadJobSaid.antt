@@ -9,7 +9,7 @@ use Rattle.air_world.proofs.files.DownloadJobRows.{DownloadCases, download-cases
 use Rattle.air_world.proofs.files.JobReach.{Stays, of-reached}
 use Rattle.air_world.proofs.files.JobUploadCame.{said-one}
 
--- what a job that has said so much has taken: its word came behind DATA_END
+-- what a job that has said this much has taken: DATA_END, if it said DL_ACK_CMD or DL_NAK_CMD
 abbrev pub Told : List JobEntry → Fetching → Type 0
 Told es silent = ⊤
 Told es (asked offset) = ⊤
@@ -207,7 +207,7 @@ module _ (server : CallSign) (number : ℕ) where
         (none-due job due (download_at server number does.rest does.phase_is) does.work_is next);
   }
 
-  -- so far a download came
+  -- how far a download came
   pub does-download : (es : List JobEntry) (job : JobState)
       → JobReaches (new_job (work.Download (new_download server number))) es job → Does es job
   does-download es job reached =

@@ -15,7 +15,7 @@ had-ok [] packet has = has
 had-ok (x ∷ packets) packet (inl is) = inl (cc)
 had-ok (x ∷ packets) packet (inr there) = inr (had-ok packets packet there)
 
--- but for the greeting
+-- except for the greeting
 pub took-said : (a : Attempt) (side : ServerSide) (packet : PacketValue) → ClientTookFront a side → Took a.client packet
     → side.greeting ≢ packet
     → Has (session.said_in side.entries) packet
@@ -42,7 +42,7 @@ none-among (part ∷ parts) (inr there) = none-among parts there
 
 -- ---- the next packet
 
--- the packet that may come next: DOWNLOAD_CMD of the client's, or its word
+-- the packet that may come next: DOWNLOAD_CMD of the client's, or its DL_ACK_CMD or DL_NAK_CMD
 abbrev pub IsNextOf : ℕ → Attempt → Sending → Item → Type 0
 IsNextOf number a unasked item =
     (offset : ℕ) × (item ≡ Ok (download_cmd number offset 0)) × Has (said_by_client a.client)
@@ -82,7 +82,7 @@ module _ (number : ℕ) (a : Attempt) (item : Item) where
   next-asked (waits offset parts) from said front = absurd (let f = front.1 in cc)
   next-asked (ended offset parts word last) from said front = absurd (let f = front.1 in cc)
 
-  -- a client that has given its word took DATA_END before
+  -- a client that has said DL_ACK_CMD or DL_NAK_CMD took DATA_END before
   next-told : (stage : Sending) (from : ℕ) (it : PacketValue) → IsWord it → Has (sending_said stage) data_end
       → AreFirstOf (sending_items number stage ++ item ∷ []) (map Ok (download_cmd number from 0 ∷ it ∷ []))
       → IsNextOf number a stage item

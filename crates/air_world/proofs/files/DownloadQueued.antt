@@ -14,9 +14,9 @@ use Rattle.air_world.proofs.files.FetchesOn.{comes-silent}
 use Rattle.air_world.proofs.files.FileOctets.{due-sending, octets-entry}
 use Rattle.air_world.proofs.files.QuietKeeps.{gone_side}
 
--- ---- where anything is due
+-- ---- if anything is due
 
--- a session sends, where anything is due
+-- a session sends, if anything is due
 abbrev pub IsSends : Sending → Type 0
 IsSends stage = (offset : ℕ) × (parts : List (List ℕ)) × (stage ≡ sends offset parts)
 

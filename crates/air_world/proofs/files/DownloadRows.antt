@@ -1,4 +1,4 @@
--- The rows of a session of a download: of DOWNLOAD_CMD, and of the word on the file (FTL0 1990, downloading).
+-- The rows of a session of a download: of DOWNLOAD_CMD, DL_ACK_CMD and DL_NAK_CMD (FTL0 1990, downloading).
 use Rattle.std.proofs.Common.{◌≡◌, ◌≢◌, inl, inr, ℕ, ◌≤◌, ◌==◌, List, [], ◌∷◌, length, refl, ap, ◌∙◌, false, Option}
 use Rattle.std.proofs.Common.{None, Some, arith}
 use Rattle.ftl0_session.specs.Downloads.Table as download
@@ -14,7 +14,7 @@ abbrev pub sending_row : List CallerList → ℕ → ℕ → List ℕ → Row
 sending_row lists number offset file =
     record { state = sending number offset (length file); lists = lists; commands = []; replies = [] }
 
--- the row of the word on a file
+-- the row of DL_ACK_CMD or DL_NAK_CMD
 abbrev pub last_row : List CallerList → PacketValue → Row
 last_row lists last = record { state = command; lists = lists; commands = []; replies = last ∷ [] }
 
@@ -69,7 +69,7 @@ module _ (law : DownloadsLaw) (caller : CallSign) (moment : ℕ) (store : Store)
   unfolding download.download_row
   nak-row = refl
 
-  -- the word, and its answer
+  -- DL_ACK_CMD or DL_NAK_CMD, and its answer
   pub row-word : (word : PacketValue) → IsWord word
       → (last : PacketValue) × IsLast
       last × (session_row caller moment store lists waiting (Ok word) false ≡ last_row lists last)

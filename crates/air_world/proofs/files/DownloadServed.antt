@@ -35,13 +35,13 @@ pub record KeepsDownload (before now : Session) (party : Party) (a : Attempt) (o
   pub due : new.is_up ≡ true → IsDueNow before.store new
   pub comes : ComesOn before.store party a old new
 
--- ---- a side behind one entry
+-- ---- a side after one entry
 
 module _ (old : ServerSide) (entry : SessionEntry) (state : State) (up : Bool) where
   pub said-one : said_by_server (gone_side old (entry ∷ []) state up) ≡ said_by_server old ++ session.packets_said entry
   said-one = ap (λ (l : List PacketValue). old.greeting ∷ l) (flat_map-one session.packets_said old.entries entry)
 
-  -- it waits for a command, or for the word: nothing is due
+  -- it waits for a command, or for DL_ACK_CMD or DL_NAK_CMD: nothing is due
   pub due-command : (store : Store) → state ≡ command → IsDueNow store (gone_side old (entry ∷ []) state up)
   due-command store is = record {
     lies = subst (λ (s : State). IsDueIn store (download_part s)) (sym is) tt;
@@ -172,7 +172,7 @@ module _ (before : Session) (party : Party) (a : Attempt) (old : ServerSide) (nu
       (due-sending before.store number offset file
       (new_side (session.took item row) row.state) it.sound is_file within refl)
 
-  -- the word came, and is answered
+  -- DL_ACK_CMD or DL_NAK_CMD came, and is answered
   fits-last : (last : PacketValue) → IsLast last → AllByRecursion Fits (last ∷ [])
   fits-last last (inl is) = (subst Fits (sym is) tt, tt)
   fits-last last (inr is) = (subst Fits (sym is) tt, tt)

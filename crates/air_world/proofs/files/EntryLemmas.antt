@@ -19,7 +19,7 @@ pub items-more : (entries : List SessionEntry) (x : SessionEntry)
     → session.items_in (entries ++ x ∷ []) ≡ session.items_in entries ++ session.items_of x
 items-more = flat_map-one session.items_of
 
--- packets without octets of DATA bring none, also behind some of those before
+-- packets without octets of DATA bring none, also after some of those before
 quiet-behind : (k : ℕ) (packets : List PacketValue) → AllByRecursion (λ p. octets_of_data p ≡ []) packets
     → octets_said (drop k packets) ≡ []
 quiet-behind zero [] quiet = refl

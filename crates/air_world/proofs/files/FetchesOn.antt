@@ -32,7 +32,7 @@ module _ (items : List Item) (packets : List PacketValue) (front : AreFirstIn it
       sym (length-map {B = Item} packets Ok) ∙ ap length front.1 ∙ length-append items front.0 in
       omega (arith, all)
 
-  -- what was taken, and what comes behind it
+  -- what was taken, and what comes after it
   pub octets-behind : octets_taken items ++ octets_said (drop (length items) packets) ≡ octets_said packets
   octets-behind =
       let behind : map {B = Item} Ok (drop (length items) packets) ≡ front.0 =
@@ -42,7 +42,7 @@ module _ (items : List Item) (packets : List PacketValue) (front : AreFirstIn it
       (sym (octets-all (drop (length items) packets)) ∙ ap octets_taken behind)
       ∙ sym (flat_map-append octets_of_item items front.0) ∙ ap octets_taken (sym front.1) ∙ octets-all packets
 
-  -- more that is said comes behind
+  -- more that is said comes after it
   pub octets-more : (more : List PacketValue)
       → octets_said (drop (length items) (packets ++ more)) ≡ octets_said
       (drop (length items) packets) ++ octets_said more
@@ -57,7 +57,7 @@ abbrev pub ComesFirst : Store → Party → Attempt → ServerSide → Download 
 ComesFirst store party a side at =
     AreFirstIfAny store at.number (got party at.number ++ (at.rest ++ coming_by a (Some side)))
 
--- it is so with the new session where it was so with the old one
+-- it is so with the new session if it was so with the old one
 abbrev pub ComesOn : Store → Party → Attempt → ServerSide → ServerSide → Type 0
 ComesOn store party a old new =
     (at : Download) → Fetches store party a at → ComesFirst store party a old at → ComesFirst store party a new at

@@ -1,4 +1,4 @@
--- What a client's facts become where its newest session goes on, over the store after its commands.
+-- What a client's facts become if its newest session goes on, over the store after its commands.
 use Rattle.std.proofs.Common.{◌≡◌, inl, inr, ℕ, List, [], ◌∷◌, length, refl, sym, ◌∙◌, subst, arith, false, Option}
 use Rattle.std.proofs.Common.{None, Some}
 use Rattle.air_world.proofs.files.Names.{IfSome, slice_get, AllByRecursion, same_Some, Store, Attempt, OneIs, AreOver, Asked, IsFileOf, Party, Grants, ServerSide, HasFacts, HasNumber, IsFetching, IsGranted, IsNumbered, coming_by, got, with_attempt}

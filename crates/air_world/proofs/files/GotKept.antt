@@ -17,7 +17,7 @@ abbrev pub piece_gots : CallSign → ℕ → List (List ℕ) → List NotesComma
 piece_gots server number pieces = map (got_command server number) pieces
 
 module _ (server : CallSign) (number : ℕ) where
-  -- they are noted behind those of before
+  -- they are noted after those of before
   pub noted-after : (pieces : List (List ℕ)) (lists : Lists)
       → got_of (after_all lists (piece_gots server number pieces)) server number ≡ got_of lists server number ++ concat
       pieces
@@ -46,7 +46,7 @@ module _ (server : CallSign) (number : ℕ) where
   noted-tasks [] lists = (lists.got, refl)
   noted-tasks (piece ∷ pieces) lists = noted-tasks pieces (after lists (got_command server number piece))
 
-  -- the pieces of 512 octets, so many
+  -- the pieces of 512 octets, this number of them
   abbrev blocks : ℕ → List ℕ → List (List ℕ)
   blocks zero octets = []
   blocks (suc n) octets = take 512 octets ∷ blocks n (drop 512 octets)
@@ -97,7 +97,7 @@ first-front (suc count) (piece ∷ pieces) =
     let rest = first-front count pieces in
     (rest.0, ap (λ (l : List ℕ). piece ++ l) rest.1 ∙ sym (append_assoc piece (concat (take count pieces)) rest.0))
 
--- ---- fronts of a complete file
+-- ---- prefixes of a complete file
 
 append-none : (some more : List ℕ) → some ++ more ≡ some → more ≡ []
 append-none some more is = nil_from_length more (omega (arith, ap length is, length-append some more))
@@ -120,7 +120,7 @@ first-before store number some all front first any =
       ),
     )
 
--- A front of a complete file that has no fault is the whole.
+-- A prefix of a complete file that has no fault is the whole.
 pub front-whole : (store : Store) (number : ℕ) (file front : List ℕ) → IsSoundStore store
     → file_of store number ≡ Some file → IsFront front file → fault_code front ≡ None → front ≡ file
 front-whole store number file front sound is_file is_front none =
@@ -134,7 +134,7 @@ front-whole store number file front sound is_file is_front none =
     (subst (IsFaultless all.0 all.1) is_front.1 all.2) some.2 in
     sym (is_front.1 ∙ ap (λ (l : List ℕ). front ++ l) more ∙ append-nil front)
 
--- what goes on behind octets without a fault is these alone
+-- what goes on after octets without a fault is these alone
 pub fault-on : (store : Store) (number : ℕ) (some all : List ℕ) → IsSoundStore store → IsFront some all
     → AreFirstIfAny store number all → fault_code some ≡ None → fault_code all ≡ None
 fault-on store number [] [] sound front first none = none
@@ -169,7 +169,7 @@ module _ (store : Store) (files : List Asked) (party : Party) (facts : HasFacts 
       (λ (w : ((other == number) ≡ false) × (other ≢ number)). others other w.1)
       (eqb_tells other number)
 
-  -- notes with the same tasks, and octets behind those of this file, are kept
+  -- notes with the same tasks, and more octets after those of this file, are kept
   module _ (now : List GotFile) (octets : List ℕ)
       (here : got_of (record lists { got = now }) server number ≡ got party number ++ octets)
       (there : (other : ℕ) → other ≢ number → got_of (record lists { got = now }) server other ≡ got party other)

@@ -7,7 +7,7 @@ use Rattle.air_world.proofs.files.Names.{find, IsTrue, Decides-eqb, nat_tests, t
 
 -- ---- the first of the commands
 
--- the first of these commands hold so many of the octets
+-- the first of these commands hold this many of the octets
 take-grows : (number n count : ℕ) (octets : List ℕ)
     → (j : ℕ) × (take count (grows number n octets) ≡ grows number j octets)
 take-grows number zero zero octets = (0, refl)
@@ -17,7 +17,7 @@ take-grows number (suc n) (suc count) octets =
     let later = take-grows number n count (drop 512 octets) in
     (suc later.0, ap (λ (rest : List Command). grow number (take 512 octets) ∷ rest) later.1)
 
--- so many of these octets are held too
+-- this many of these octets are held too
 abbrev pub with_front : Store → ℕ → List ℕ → ℕ → Store
 with_front store number octets count = with_holding store number (grown (take count octets))
 

@@ -95,7 +95,7 @@ module _ (a : Attempt) (entry : JobEntry) (entries : List JobEntry) (side : Serv
         },
       )
 
--- ---- what stands behind an entry
+-- ---- what is true after an entry
 
 -- the client's tasks, and its attempts' works
 stands-then : (store : Store) (files : List Asked) (c : ℕ) (base : Party) (a : Attempt) (older : List Attempt)
@@ -153,10 +153,10 @@ module _ (promises : PromisesLaw) (due_stands : DueLaw) where
       subst (λ (l : Lists). JobStands asked l now) (sym goes.1.0)
       (subst (JobStands asked lists) (sym goes.1.1) (due_stands asked lists before due stands goes.0))
 
-  -- ---- one entry, and the others behind it
+  -- ---- one entry, and the others after it
 
   module _ (one : OneLaw (λ asked. ⊤)) (store : Store) (files : List Asked) (c : ℕ) where
-    -- the client behind an entry
+    -- the client after an entry
     working-then : (base : Party) (a : Attempt) (older : List Attempt) → Working store files c base a older
         → (entry : JobEntry) (lists : Lists) (now : Attempted)
         → GoesBy base.client.lists a.client.attempted.job (entry ∷ []) lists now.job

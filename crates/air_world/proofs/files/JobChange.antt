@@ -13,7 +13,7 @@ made base lists link stray attempts =
 abbrev pub moved : Attempt → Attempted → List JobEntry → Attempt
 moved a now entries = record a { client = record a.client { attempted = now; entries = entries } }
 
--- What is to be shown of other notes and another current attempt, where the facts hold of a client.
+-- What is to be shown of other notes and another current attempt, if the facts are true of a client.
 pub record Changes (store : Store) (files : List Asked) (old new : Party) (a b : Attempt)
     (older : List Attempt) : Type 0 where
   pub numbers : (task number : ℕ) → HasNumber old task number → HasNumber new task number

@@ -1,4 +1,4 @@
--- What holds of a client whose job went on by an entry holds of it as it was before, with the newer notes.
+-- What is true of a client whose job went on by an entry is true of it as it was before, with the newer notes.
 use Rattle.std.proofs.Common.{◌≡◌, ℕ, ◌+◌, List, [], ◌∷◌, ◌++◌, length, drop, Option, None, Some, refl, sym, ◌∙◌, ap}
 use Rattle.std.proofs.Common.{subst, suc, zero}
 use Rattle.ftl0_server.specs.Entries as session

@@ -18,7 +18,7 @@ pub record NumberIn (lists : Lists) (task number : ℕ) : Type 0 where
 abbrev pub AckedIn : Lists → ℕ → ℕ → Type 0
 AckedIn lists task number = noted_at lists task ≡ Some (noted.Acked task number)
 
--- Each task is one that there was, but for its number and how far it has come, and there are as many.
+-- Each task is one that there was, except for its number and how far it has come, and there are as many.
 pub record SameTasks (old new : Lists) : Type 0 where
   pub each :
       (task : ℕ) (entry : Task) → task_of new task ≡ Some entry
@@ -26,8 +26,8 @@ pub record SameTasks (old new : Lists) : Type 0 where
       before) × (entry ≡ record before { number = entry.number; progress = entry.progress })
   pub as_many : length new.tasks ≡ length old.tasks
 
--- What notes keep that come of a client's: its tasks and their numbers, of which each numbered one is what the facts say;
--- what is acknowledged is kept; and what is got goes on to be the front of a file.
+-- What is kept by notes that a client's become: its tasks and their numbers, of which each numbered one is what the
+-- facts say; what is acknowledged is kept; and what is got stays a prefix of a file.
 pub record NotesKept (store : Store) (files : List Asked) (party : Party) (lists : Lists) : Type 0 where
   pub tasks : SameTasks party.client.lists lists
   pub numbers : (task number : ℕ) → NumberIn party.client.lists task number → NumberIn lists task number

@@ -19,7 +19,7 @@ use Rattle.air_world.proofs.files.JobUploadCame.{DoesUpload, said-one}
 use Rattle.air_world.proofs.files.JobWorking.{OneKept, Working, heard-all, heard-before, heard-last, never-fetched}
 use Rattle.air_world.proofs.files.JobWorking.{told-before}
 
--- What an entry of an upload's job does, beside what it says: the notes are those after its commands, each front of
+-- What an entry of an upload's job does, besides what it says: the notes are those after its commands, each prefix of
 -- which keeps the notes; with the outcome it says nothing; and the number of a new upload is noted.
 record EntryDoes (store : Store) (files : List Asked) (base : Party) (a : Attempt) (older : List Attempt)
     (upload : Upload) (entry : JobEntry) (lists : Lists)
@@ -235,7 +235,7 @@ module _ (store : Store) (files : List Asked) (c : ℕ) (base : Party) (a : Atte
             (done.number number here (ap (λ (u : Upload). u.known) same))
         by (inr (inr none)) = absurd none
 
-    -- the session that receives is this one, and what is said behind what it took goes on with the file
+    -- the session that receives is this one, and what is said after what it took goes on with the file
     receives-now : (that : ServerSide) (number : ℕ) (rest : List ℕ) → side ≡ that
         → (r : Receives store party a that number rest)
         → GoesOnWith r.file (r.offset + octets_come that) (said_behind_server that b.client)

@@ -1,4 +1,4 @@
--- What is to be shown of one entry of a job, where a client is at work.
+-- What is to be shown of one entry of a job, if a client is at work.
 use Rattle.std.proofs.Common.{◌≡◌, ℕ, List, [], ◌∷◌, sym, subst}
 use Rattle.air_world.proofs.files.Names.{Store, Lists, Work, Attempted, GoesBy, JobEntry, Attempt, Asked, Party, ServerSide, HasFacts, IsUploadOf, IsWorking, JobKeeps, Stands, TookFront}
 use Rattle.air_world.proofs.files.JobOfUpload.{upload-kept}

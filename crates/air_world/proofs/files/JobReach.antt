@@ -1,4 +1,4 @@
--- How a job comes from what was asked to where it is, entry by entry.
+-- How a job gets from what was asked to its state now, entry by entry.
 use Rattle.std.proofs.Common.{◌≡◌, ◌≢◌, List, [], ◌∷◌, ◌++◌, Option, None, Some, sym, ◌∙◌, ap, subst, append_assoc}
 use Rattle.std.proofs.Common.{append-nil}
 use Rattle.ftl0_client_job.specs.Due.{next_due}

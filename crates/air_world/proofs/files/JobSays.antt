@@ -1,4 +1,4 @@
--- What a job has said stays so where nothing more is said.
+-- What a job has said stays so if nothing more is said.
 use Rattle.std.proofs.Common.{◌≡◌, ℕ, sym, ◌∙◌, subst}
 use Rattle.ftl0_client_job.specs.declared.work.Work.TheVariants as work
 use Rattle.air_world.proofs.files.Names.{PacketValue, data_end, Work, OneIs, IsTaken, ClientSide, said_by_client, IsListSaid, Says, Fetching, IsFetchingFile, SaysDownload, asked, silent, told}

@@ -1,4 +1,4 @@
--- The facts of a client once its job went on by some entries, and where it starts again from its notes.
+-- The facts of a client once its job went on by some entries, and when it starts again from its notes.
 use Rattle.std.proofs.Common.{◌≡◌, ℕ, ◌+◌, List, ◌∷◌, ◌++◌, length, true, None, Some, refl, sym, ◌∙◌, ap, subst}
 use Rattle.std.proofs.Common.{le_trans, take_all, le_refl}
 use Rattle.client_notes.specs.Several as notes
@@ -108,7 +108,7 @@ module _ (store : Store) (files : List Asked) (base : Party) (a : Attempt) (olde
             → HasNumber (with_job party lists now (job_gone entries now a) older) task number
         to n = record { entry = n.entry; is_entry = n.is_entry; number_is = n.number_is; some = n.some }
 
-  -- Entries keep the facts where each front of their commands keeps the notes, and what they lead to is so.
+  -- Entries keep the facts if each prefix of their commands keeps the notes, and what they lead to is so.
   pub keeps-by : HasFacts store files party → (entries : List JobEntry) (lists : Lists) (now : Attempted)
       → ((count : ℕ) → NotesKept store files party
       (notes.after_first count party.client.lists (job.commands_in entries)))

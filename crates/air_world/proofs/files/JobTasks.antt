@@ -1,5 +1,5 @@
--- What a job's entries leave of its client's tasks: none of their commands is a start, so each task stays but for its
--- number and how far it has come.
+-- What a job's entries leave of its client's tasks: none of their commands is a start, so each task stays except for
+-- its number and how far it has come.
 use Rattle.std.proofs.Common.{◌≡◌, ℕ, ◌-◌, zero, suc, Bool, true, false, List, [], ◌∷◌, length, take, Option, None}
 use Rattle.std.proofs.Common.{Some, Ok, Err, inl, inr, refl, sym, ◌∙◌, ap, subst}
 use Rattle.std.specs.Prelude.{◌==◌, if◌then◌else◌}
@@ -46,12 +46,12 @@ same-then old mid new one two = record {
 
 -- ---- one command
 
--- the task is that one, but for its number and how far it has come
+-- the task is that one, except for its number and how far it has come
 abbrev IsSame : Task → Task → Type 0
 IsSame before now = now ≡ record before { number = now.number; progress = now.progress }
 
 module _ (change : Task → Task) (same : (t : Task) → IsSame t (change t)) where
-  -- what stands at a place once a task was changed
+  -- what is at a place once a task was changed
   changed-at : (tasks : List Task) (place other : ℕ) (o : Option Task) → slice_get tasks place ≡ o → (entry : Task)
       → slice_get (set_some change tasks place o) other ≡ Some entry
       → (before : Task) × (slice_get tasks other ≡ Some before) × IsSame before entry
@@ -223,7 +223,7 @@ tasks-same files c old new uploads server me same tasks = record {
   as_many = ap length uploads ∙ tasks.as_many ∙ sym same.as_many;
 }
 
--- They are, where its stations, its notes and its uploads are as they were.
+-- They are, if its stations, its notes and its uploads are as they were.
 pub tasks-lists : (files : List Asked) (c : ℕ) (one other : Party) → other.client.me ≡ one.client.me
     → other.client.server ≡ one.client.server → other.client.lists ≡ one.client.lists → other.uploads ≡ one.uploads
     → AreTasks files c one → AreTasks files c other

@@ -1,4 +1,4 @@
--- What the packets that one side took tell of what the other one has said.
+-- What the packets that one side took show of what the other one has said.
 use Rattle.std.proofs.Common.{◌≡◌, ◌⊎◌, ℕ, List, [], ◌∷◌, ◌++◌, length, map, Ok, inl, inr, refl, sym, ◌∙◌, subst}
 use Rattle.ftl0_server.specs.Entries as session
 use Rattle.ftl0_client.specs.Entries as job
@@ -70,7 +70,7 @@ IsOffer (ended n o parts word) number offset = (n ≡ number) × (o ≡ offset)
 
 module _ (known : ℕ) (file : List ℕ) (side : ServerSide) (greets : IsGreeting side.greeting)
     (serves : ServesUpload known file side) where
-  -- but for LOGIN_RESP it has said what its stage has
+  -- except for LOGIN_RESP it has said what its stage has
   staged : (x : PacketValue) → ((moment flags : ℕ) → login_resp moment flags ≡ x → ⊥) → Has (said_by_server side) x
       → Has (receiving_said serves.stage) x
   staged x other (inl same) = absurd (other _ _ (sym greets.2 ∙ same))
@@ -158,7 +158,7 @@ module _ (known : ℕ) (file : List ℕ) (side : ServerSide) (greets : IsGreetin
       by (ended n o parts word) first offer (inr (inl same)) = absurd (no-word word offer.1 same)
       by (ended n o parts word) first offer (inr (inr there)) = absurd there
 
-  -- its word came behind DATA_END
+  -- it took DATA_END, if it said UL_ACK_RESP or UL_NAK_RESP
   pub word-behind : (word : PacketValue) → IsWord word → Has (said_by_server side) word
       → Has (session.items_in side.entries) (Ok data_end)
   word-behind word is has =
@@ -191,7 +191,7 @@ module _ (known : ℕ) (file : List ℕ) (side : ServerSide) (greets : IsGreetin
       by (ended n o parts given) has =
           inr (one-last (λ (y : Item). y ≡ Ok data_end) (data_items parts) (Ok data_end) refl)
 
-  -- an offer came behind UPLOAD_CMD
+  -- an offer came after UPLOAD_CMD
   pub offer-behind : (number offset : ℕ) → Has (said_by_server side) (ul_go_resp number offset)
       → Has (session.items_in side.entries) (Ok (upload_cmd known (length file)))
   offer-behind number offset has =

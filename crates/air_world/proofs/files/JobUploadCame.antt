@@ -18,7 +18,7 @@ GoesTo file place (data_part octets ∷ packets) end =
 GoesTo file place (packet ∷ packets) end = ⊥
 
 module _ (file : List ℕ) where
-  -- with DATA behind them
+  -- with DATA after them
   pub goes-more : (packets : List PacketValue) (place mid : ℕ) (octets : List ℕ) → GoesTo file place packets mid
       → octets ≡ take (length octets) (drop mid file)
       → GoesTo file place (packets ++ data_part octets ∷ []) (mid + length octets)
@@ -37,7 +37,7 @@ module _ (file : List ℕ) where
   goes-on (data_part more ∷ packets) place end goes = (goes.0, goes-on packets (place + length more) end goes.1)
   goes-on (packet ∷ packets) place end goes = absurd goes
 
-  -- with DATA_END behind them
+  -- with DATA_END after them
   pub goes-end : (packets : List PacketValue) (place : ℕ) → GoesTo file place packets (length file)
       → GoesOnWith file place (packets ++ data_end ∷ [])
   goes-end [] place goes = (goes, refl)

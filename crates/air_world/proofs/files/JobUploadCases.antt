@@ -31,11 +31,11 @@ module _ (store : Store) (files : List Asked) (base : Party) (a : Attempt) (olde
   abbrev lists : Lists
   lists = base.client.lists
 
-  -- the notes after each front of these commands
+  -- the notes after each prefix of these commands
   abbrev Fronts : List NotesCommand → Type 0
   Fronts commands = (count : ℕ) → NotesKept store files party (notes.after_first count lists (commands ++ []))
 
-  -- ---- each front of a row's commands keeps the notes
+  -- ---- each prefix of a row's commands keeps the notes
 
   abbrev KeepsNotes : UploadPhase → PacketValue → Row Upload → Type 0
   KeepsNotes p packet row =
@@ -169,7 +169,7 @@ module _ (store : Store) (files : List Asked) (base : Party) (a : Attempt) (olde
   SaysNothing p packet row =
       CameTo p known file a.client.entries → Has (said_by_server side) packet → row.ending ≢ None → row.replies ≡ []
 
-  -- the word on the file can't come before DATA_END
+  -- UL_ACK_RESP and UL_NAK_RESP can't come before DATA_END
   no-word : (number place code : ℕ) → CameTo (phase.Sending number place) known file a.client.entries
       → Has (said_by_server side) (ul_nak_resp code) → ⊥
   no-word number place code came said = by (subst (λ (l : List PacketValue). Has l data_end) came.said ends)

@@ -1,4 +1,4 @@
--- What a job that uploads has said, behind what its session took.
+-- What a job that uploads has said, after what its session took.
 use Rattle.std.proofs.Common.{◌≡◌, ℕ, ◌+◌, List, [], ◌∷◌, ◌++◌, length, drop, map, inl, inr, refl, sym, ◌∙◌, ap, subst}
 use Rattle.std.proofs.Common.{suc, zero, length-append, add-zero, add_assoc}
 use Rattle.ftl0_server.specs.Entries as session
@@ -23,7 +23,7 @@ says-came known file side (phase.Sending number place) came = record {
 says-came known file side (phase.Ack number) came =
     record { stage = sends number came.offset came.packets; said = came.said; sends_file = (came.took, came.goes_on) }
 
--- it stays so where nothing more is said
+-- it stays so if nothing more is said
 pub says-same : (known : ℕ) (file : List ℕ) (old new : ClientSide) → SaysUpload known file old
     → said_by_client new ≡ said_by_client old
     → ((packet : PacketValue) → OneIs (IsTaken (whole packet)) old.entries → OneIs (IsTaken (whole packet)) new.entries)
@@ -61,7 +61,7 @@ no-download known file side number offset says has =
     by (sends n o packets) is (inl same) = absurd (cc same)
     by (sends n o packets) is (inr there) = no-fetch file packets o number offset is.1 there
 
--- ---- behind what was taken
+-- ---- after what was taken
 
 abbrev no_packets : List PacketValue
 no_packets = []
@@ -70,7 +70,7 @@ drop-none : (n : ℕ) → drop n no_packets ≡ no_packets
 drop-none zero = refl
 drop-none (suc n) = refl
 
--- what goes on with a file goes on with it behind its first packets, too
+-- what goes on with a file goes on with it after its first packets, too
 behind : (file : List ℕ) (items more : List Item) (packets : List PacketValue) (place : ℕ)
     → map whole packets ≡ items ++ more → GoesOnWith file place packets
     → GoesOnWith file (place + length (octets_taken items)) (drop (length items) packets)
@@ -117,7 +117,7 @@ module _ (known : ℕ) (file : List ℕ) (side : ServerSide) (greets : IsGreetin
       (subst (λ (k : ℕ). GoesOnWith file (k + length (octets_taken items)) (drop (length items) packets)) place
       (behind file items more packets o same.1 is.1))
 
-  -- what was said behind what the session took goes on with the file that it receives
+  -- what was said after what the session took goes on with the file that it receives
   pub goes-behind : AreFirstOf (session.items_in side.entries) (map whole (said_by_client client))
       → GoesOnWith file (offset + octets_come side)
       (drop (length (session.items_in side.entries)) (said_by_client client))

@@ -45,7 +45,7 @@ kept-whole store number file caller (inr (inr kept)) whole = kept
 pub upload-same : (x y : Upload) → work.Upload x ≡ work.Upload y → x ≡ y
 upload-same x y same = cc
 
--- What is known where a job that uploads takes a packet: what was asked, the task, its file, and the session.
+-- What is known when a job that uploads takes a packet: what was asked, the task, its file, and the session.
 pub record Uploading (store : Store) (files : List Asked) (base : Party) (a : Attempt) (older : List Attempt)
     (upload : Upload) (side : ServerSide)
     : Type 0 where

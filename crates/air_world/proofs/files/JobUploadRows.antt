@@ -15,7 +15,7 @@ abbrev pub IsNoOffer : Upload → UploadPhase → PacketValue → Type 0
 IsNoOffer at p packet =
     (number offset : ℕ) → p ≡ phase.Go → packet ≡ ul_go_resp number offset → may_go at number offset ≡ false
 
--- it holds of each row of an upload, by how far it has come and by the packet
+-- it is true of each row of an upload, by how far it has come and by the packet
 pub record UploadCases (task known : ℕ) (file : List ℕ)
     (P : UploadPhase → PacketValue → Row Upload → Type 0) : Type 0 where
   pub strange_rows :

@@ -231,7 +231,7 @@ module _ (task known : ℕ) (file : List ℕ) where
         (record { phase_is = to.0; work_is = ap work.Upload to.1; came = λ none. to.2; ended = tt });
   }
 
-  -- so far an upload came
+  -- how far an upload came
   pub does-upload : (es : List JobEntry) (job : JobState)
       → JobReaches (new_job (work.Upload (new_upload task known file))) es job → Does es job
   does-upload es job reached =

@@ -1,4 +1,4 @@
--- What stands where a job goes on by one entry, and what is to be shown then.
+-- What is true when a job goes on by one entry, and what is to be shown then.
 use Rattle.std.proofs.Common.{◌≡◌, ℕ, List, [], ◌∷◌, ◌++◌, map, Option, None, Some}
 use Rattle.ftl0_server.specs.Entries as session
 use Rattle.client_notes.specs.Several as notes
@@ -21,8 +21,8 @@ pub record Working (store : Store) (files : List Asked) (c : ℕ) (base : Party)
   pub sound : IsSoundStore store
   pub facts : HasFacts store files (of_attempts base a older)
 
--- What an entry keeps: the notes are those after its commands; each front of these keeps the notes; and the attempt that
--- it leads to is such as the facts want it.
+-- What an entry keeps: the notes are those after its commands; each prefix of these keeps the notes; and the attempt
+-- that it leads to is such as the facts want it.
 pub record OneKept (store : Store) (files : List Asked) (base : Party) (a : Attempt) (older : List Attempt)
     (entry : JobEntry) (lists : Lists) (now : Attempted)
     : Type 0 where
@@ -69,7 +69,7 @@ module _ (a : Attempt) (entry : JobEntry) (side : ServerSide) (front : TookFront
 
 -- ---- outcomes
 
--- what never fetches comes to no fetched file
+-- what never fetches never ends with a fetched file
 pub never-fetched : (o : Option Ending) (down : Option Why) (number : ℕ) → NeverFetched o
     → outcome_by o down ≡ Some (outcome.Fetched number) → ⊥
 never-fetched None None number never is = cc

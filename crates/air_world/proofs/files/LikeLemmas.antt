@@ -1,6 +1,5 @@
--- What the facts look at of a client, an attempt and a session, put into others in place of theirs: these have the
--- facts.
--- Ends of links, transmissions and what else is theirs don't matter, and a session may be over.
+-- What the facts look at of a client, an attempt and a session, put into others instead of theirs: these have the
+-- facts. Ends of links, transmissions and what else is theirs don't matter, and a session may be over.
 use Rattle.std.proofs.Common.{◌≡◌, ℕ, List, length, ap, sym, ◌∙◌, true}
 use Rattle.ftl0_client_job.specs.declared.work.Work.TheVariants as work
 use Rattle.air_world.specs.Files.DownloadDialogue as download

@@ -31,7 +31,7 @@ selected-files store lists caller numbers are new =
     (All-filter (λ list. not (is_of caller list)) (IsOfFiles store) lists are)
     (All-cons (IsOfFiles store) own [] new (All-nil _)))
 
--- ---- the files that a selection holds of
+-- ---- the files that a selection matches
 
 -- An entry among these, whose numbers rise, is found by its number.
 found-at : (low next : ℕ) (entries : List Entry) (number : ℕ) → AreEntries low entries next → number < low
@@ -42,7 +42,7 @@ found-at low next (x ∷ xs) number are lt =
     rw other (found-at (x.number + 1) next xs number are.4 (omega (arith, are.0, lt)))
 
 module _ (store : Store) (tree : Tree) where
-  -- the last entries are found behind the first
+  -- the last entries are found after the first
   abbrev Behind : ℕ → List Entry → Type 0
   Behind low entries = (number : ℕ) → low ≤ number → entry_of store number ≡ find (has_number number) entries
 

@@ -16,7 +16,7 @@ use Rattle.air_world.proofs.files.JobUploadCame.{NeverFetched, said-one}
 abbrev pub directory_at : List ℕ → List ℕ → DirectoryPhase → Directory
 directory_at tokens listing p = record { tokens = tokens; listing = listing; phase = p }
 
--- SELECT_CMD was said, and DIR_SHORT_CMD behind it
+-- SELECT_CMD was said, and DIR_SHORT_CMD after it
 record HasSelected (tokens : List ℕ) (said : List PacketValue) : Type 0 where
   more : List PacketValue
   said_is : said ≡ select_cmd tokens ∷ more
@@ -286,7 +286,7 @@ module _ (tokens : List ℕ) where
         (none-due job due (directory_at tokens does.listing does.phase_is) does.work_is next);
   }
 
-  -- so far a list came
+  -- how far a list came
   pub does-list : (es : List JobEntry) (job : JobState)
       → JobReaches (new_job (work.Directory (new_directory tokens))) es job → Does es job
   does-list es job reached =

@@ -1,4 +1,4 @@
--- What comes to a session of a list, and what it queues of itself.
+-- What reaches a session of a list, and what it queues without being asked.
 use Rattle.std.proofs.Common.{◌≡◌, ◌⊎◌, inl, inr, ℕ, ◌<◌, ◌==◌, List, [], ◌∷◌, ◌++◌, length, map, take, refl, ap, sym}
 use Rattle.std.proofs.Common.{◌∙◌, subst, false, Some, arith, length-take}
 use Rattle.ftl0_session.specs.Table.{DuePacket}
@@ -44,7 +44,7 @@ front-last (x ∷ items) item (first ∷ others) front =
 
 -- ---- what is due
 
--- the next packet of these octets and the state behind it
+-- the next packet of these octets and the state after it
 abbrev list_due : List Due → List ℕ → DuePacket
 list_due dues [] = record { packet = data_end; state = command }
 list_due dues (octet ∷ octets) =

@@ -31,7 +31,7 @@ other-state state number rest (inr (dues, is)) same =
 module _ (files : List Asked) (c : ℕ) (party : Party) (before : Session) (served : IsServed files c party before)
     (at : Directory)
     (asked : served.attempt.client.asked ≡ work.Directory at) where
-  -- what holds of each attempt holds of the current one
+  -- what is true of each attempt is true of the current one
   here : (P : Attempt → Type 0) → EachAttempt party P → P served.attempt
   here P all = (subst (λ (l : List Attempt). AllByRecursion P l) served.attempts_are all).0
 

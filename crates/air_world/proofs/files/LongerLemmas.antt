@@ -14,7 +14,7 @@ place-more [] more place x there = absurd (cc)
 place-more (y ∷ ys) more zero x there = there
 place-more (y ∷ ys) more (suc place) x there = place-more ys more place x there
 
--- what stands at a place of a list with one more stood there, or is that one
+-- what is at a place of a list with one more was there before, or is that one
 pub place-last : {X : Type 0} (xs : List X) (last : X) (place : ℕ) (x : X) → slice_get (xs ++ last ∷ []) place ≡ Some x
     → (slice_get xs place ≡ Some x) ⊎ (x ≡ last)
 place-last [] last zero x there = inr (sym (same_Some last x there))
@@ -82,7 +82,7 @@ task-file files c party task entry it =
     ap (λ o. option_map (λ (asked : Asked). asked.file) (option_and_then (slice_get files) o)) it.is_upload
     ∙ ap (option_map (λ (asked : Asked). asked.file)) it.is_asked
 
--- and it was known, where the task is there
+-- and it was known, if the task is there
 pub file-known : (files more : List Asked) (c : ℕ) (party : Party) (task : ℕ) (entry : Task) (file : List ℕ)
     → IsTaskFor files c party task entry
     → IsFileOf (files ++ more) party task file → IsFileOf files party task file

@@ -1,4 +1,4 @@
--- What a client's facts become where commands change one entry of the store: over the store then, with the sessions over,
+-- What a client's facts become if commands change one entry of the store: over the store then, with the sessions over,
 -- and with the newest one gone on.
 use Rattle.std.proofs.Common.{◌≡◌, inl, inr, ℕ, List, [], ◌∷◌, ◌++◌, refl, ap, sym, ◌∙◌, subst, arith, true, Option}
 use Rattle.std.proofs.Common.{None, Some}
@@ -23,8 +23,8 @@ GrantsBegun now party a side =
     (number file_length task : ℕ) (file : List ℕ) → Grants side number file_length → AsksUpload a task 0 file
     → (HasNumber party task number → ⊥) → WhereStands now number (IsBegun party.client.me file_length)
 
--- The store came to another one by commands on the entry of this number. The entry is on the way to the file of each task
--- that has the number, and it was given for those alone.
+-- The store became another one by commands on the entry of this number. The entry is on the way to the file of each
+-- task that has the number, and it was given for those alone.
 pub record MovesAt (files : List Asked) (party : Party) (before now : Store) (n : ℕ) : Type 0 where
   pub keeps : KeepsEntries before now
   pub others : StayOthers n before now
@@ -32,8 +32,8 @@ pub record MovesAt (files : List Asked) (party : Party) (before now : Store) (n 
       → IsFileAt now n file party.client.me
   pub own : AllByRecursion (λ a. IfSome a.server (OwnGrants party n a)) party.attempts
 
--- The store came to another one, in which the entries of the client's tasks are on the way to their files, and nothing is
--- held of what was given and isn't noted.
+-- The store became another one, in which the entries of the client's tasks are on the way to their files, and nothing
+-- is held of what was given and isn't noted.
 pub record MovesTo (files : List Asked) (party : Party) (before now : Store) : Type 0 where
   pub keeps : KeepsEntries before now
   pub file :

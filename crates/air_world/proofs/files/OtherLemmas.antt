@@ -1,4 +1,4 @@
--- Facts in a store in which the client's own entries stand as they did, or are gone where no session receives them.
+-- Facts in a store in which the client's own entries are as they were, or are gone if no session receives them.
 use Rattle.std.proofs.Common.{◌≡◌, ◌≢◌, ◌⊎◌, ℕ, ◌<◌, List, refl, ap, sym, ◌∙◌, subst, arith, true, Option, None, Some}
 use Rattle.std.proofs.Common.{inl, inr}
 use Rattle.air_world.proofs.files.Names.{same_Some, eqb_tells, CallSign, IsCall, FollowsBy, FollowsLaw, KeepsEntries, after, drop_entry, Entry, Store, entry_of, partial, find-filter_other, DueStaysLaw, receiving, Attempt, Has, Asked, EachSide, Party, newest, ServerSide, HasFacts, IsBegun, IsGrantKept, IsNumbered, Receives, IsFileAt, IsUnderWay, WhereStands, IsSoundStore}
@@ -9,18 +9,18 @@ use Rattle.air_world.proofs.files.StableLemmas.{keeps-offer, keeps-serves, keeps
 use Rattle.air_world.proofs.files.StoreLemmas.{drop-keeps, dropped-none}
 use Rattle.air_world.proofs.files.ReceivesAs.{receives-as}
 
--- the entry stands as it did
+-- the entry is as it was
 abbrev pub StandsStill : Store → Store → ℕ → Type 0
 StandsStill before now number = (entry : Entry) → entry_of before number ≡ Some entry → entry_of now number ≡ Some entry
 
--- The store follows the other; in it the caller's entries stand as they did, or are gone.
+-- The store follows the other; in it the caller's entries are as they were, or are gone.
 pub record LeavesOwn (before now : Store) (caller : CallSign) : Type 0 where
   pub keeps : KeepsEntries before now
   pub own :
       (number : ℕ) (entry : Entry) → entry.caller ≡ caller → entry_of before number ≡ Some entry
       → (entry_of now number ≡ Some entry) ⊎ (entry_of now number ≡ None)
 
--- what a session that is up receives stands as it did
+-- what a session that is up receives is as it was
 abbrev pub LeavesReceived : Store → Store → ServerSide → Type 0
 LeavesReceived before now side =
     (number : ℕ) (rest : List ℕ) → side.is_up ≡ true → side.connected.state ≡ receiving number rest
@@ -135,7 +135,7 @@ facts-moved files before now party law leaves received facts = together now file
 
 -- ---- another caller's commands
 
--- where a session that is up receives the entry is its client's
+-- if a session that is up receives the entry it is its client's
 pub received-own : (store : Store) (files : List Asked) (party : Party) (a : Attempt) (side : ServerSide)
     → HasFacts store files party
     → Has party.attempts a → a.server ≡ Some side → (number : ℕ) (rest : List ℕ) → side.is_up ≡ true

@@ -32,7 +32,7 @@ module _ (side : ServerSide) (none : AllByRecursion IsNoUpload (session.said_in 
   grants-none number file_length grants =
       each-at IsNoUpload (session.said_in side.entries) (ul_go_resp number 0) none (answer-said side.entries _ _ grants)
 
-  -- but by its greeting
+  -- except by its greeting
   pub offers-none : (number offset : ℕ) → Offers side number offset → side.greeting ≡ ul_go_resp number offset
   offers-none number offset (inl is) = is
   offers-none number offset (inr has) =
@@ -94,7 +94,7 @@ module _ (party : Party) (attempts : List Attempt) where
 
 -- ---- the facts
 
--- A session that looks like this behind an entry: it began so, and says nothing of uploading; it does what its caller
+-- A session that looks like this after an entry: it began so, and says nothing of uploading; it does what its caller
 -- asked; and it receives no file.
 pub record IsQuiet (store : Store) (asked : Work) (old new : ServerSide) : Type 0 where
   pub greeting : new.greeting ≡ old.greeting
@@ -113,7 +113,7 @@ module _ (store : Store) (files : List Asked) (party : Party) (a : Attempt) (old
   abbrev done : Party
   done = with_attempt party now_is older
 
-  -- what holds of each attempt
+  -- what is true of each attempt
   each : (P : Attempt → Type 0) → EachAttempt party P → P a × AllByRecursion P older
   each P all = subst (λ (l : List Attempt). AllByRecursion P l) attempts_are all
 
@@ -130,7 +130,7 @@ module _ (store : Store) (files : List Asked) (party : Party) (a : Attempt) (old
       by None holds = tt
       by (Some side) holds = weaker b side holds
 
-  -- of each session, where it holds of the new one, and of the others as it did
+  -- of each session, if it is true of the new one, and of the others as it was
   sides : (R S : Attempt → ServerSide → Type 0) → ((b : Attempt) (side : ServerSide) → R b side → S b side)
       → EachAttempt party (λ b. IfSome b.server (R b)) → S now_is new
       → EachAttempt done (λ b. IfSome b.server (S b))

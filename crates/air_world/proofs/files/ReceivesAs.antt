@@ -1,4 +1,4 @@
--- What a session receives it receives still, where store, client, attempt and session are others with the same of it.
+-- What a session receives it receives still, if store, client, attempt and session are others with the same of it.
 use Rattle.std.specs.Prelude.{◌≡◌, ◌+◌, ◌≤◌, ◌++◌}
 use Rattle.air_world.proofs.files.Names.{ℕ, List, length, take, Some, Store, entry_of, Attempt, Party, AsksUpload, Offers, octets_come, said_behind_server, ServerSide, GoesOnWith, Receives}
 

@@ -160,7 +160,7 @@ module _ (files : List Asked) (c : ℕ) (party : Party) (moment : ℕ) (before :
         begun-older now served.older granted.1,
       )
 
-  -- the earlier client has its facts where the later one has
+  -- the earlier client has its facts if the later one has
   left-earlier : (now : Store) → FollowsBy party.client.me before.store mid.store → LeftIn files mid_party mid.store now
       → LeftIn files party before.store now
   left-earlier now first left =
@@ -187,7 +187,7 @@ module _ (files : List Asked) (c : ℕ) (party : Party) (moment : ℕ) (before :
   abbrev Left : List Command → Type 0
   Left commands = LeftIn files party before.store (after_all before.store commands)
 
-  -- behind the commands of both
+  -- after the commands of both
   left-both : (later : List SessionEntry) → mid.store ≡ after_all before.store (session.commands_of x)
       → FollowsBy party.client.me before.store mid.store
       → ((count : ℕ) → LeftIn files party before.store (after_first count before.store (session.commands_in (x ∷ []))))

@@ -1,4 +1,4 @@
--- Entries of a session one after another: the first one, and the client behind it.
+-- Entries of a session one after another: the first one, and the client after it.
 use Rattle.std.proofs.Common.{◌≡◌, ◌⊎◌, inl, inr, ℕ, suc, zero, ◌≤◌, ◌<◌, List, [], ◌∷◌, ◌++◌, map, refl, ap, sym, ◌∙◌}
 use Rattle.std.proofs.Common.{subst, arith, append_assoc, true}
 use Rattle.file_store.specs.Command.{after_all}
@@ -10,7 +10,7 @@ use Rattle.air_world.proofs.files.LiftLemmas.{side-at}
 
 -- ---- the first entry
 
--- The first of some entries, which others follow: the session behind it, to which it leads, and its commands.
+-- The first of some entries, which others follow: the session after it, to which it leads, and its commands.
 pub record FirstGoes (caller : CallSign) (moment : ℕ) (before now : Session) (x : SessionEntry)
     (later : List SessionEntry) : Type 0 where
   pub mid : Session
@@ -47,7 +47,7 @@ front-first a side x later front =
           ∙ append_assoc (session.items_in (side.entries ++ x ∷ [])) (session.items_in later) front.0,
     )
 
--- ---- the client behind it
+-- ---- the client after it
 
 module _ (files : List Asked) (c : ℕ) (party : Party) (moment : ℕ) (before : Session)
     (served : IsServed files c party before)

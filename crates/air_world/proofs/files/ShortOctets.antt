@@ -46,7 +46,7 @@ header-octets items has =
 has-octets : (item : ItemValue) → IsItem item → HasOctets item
 has-octets item is = record { octets = is.octets; most = is.most }
 
--- the data of an item that stands, or none
+-- the data of an item that is there, or none
 content-octets : (id : ℕ) (items : List ItemValue) → AreItems items
     → HasOctets (record { id = id; content = content_of id items })
 content-octets id items are = by (find (λ item. item.id == id) items) refl

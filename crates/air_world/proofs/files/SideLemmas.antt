@@ -14,9 +14,9 @@ use Rattle.air_world.proofs.files.QuietKeeps.{first-none}
 
 -- ---- what the row of an entry does
 
--- The row of a packet: its commands are the caller's, and change the entry of one number alone. That is on the way to the
--- file of each task that has the number, behind each of them, and was given for those alone. It leaves the lists; its
--- replies can be said and bring no octets, and a number that it gives is new.
+-- The row of a packet: its commands are the caller's, and change the entry of one number alone. That is on the way to
+-- the file of each task that has the number, after each of them, and was given for those alone. It leaves the lists;
+-- its replies can be said and bring no octets, and a number that it gives is new.
 pub record RowDoes (files : List Asked) (party : Party) (before : Session) (item : Item) (row : Row) : Type 0 where
   pub commands : AreRowCommands party.client.me before.store row.commands
   pub lists : row.lists ≡ before.lists
@@ -62,7 +62,7 @@ module _ (files : List Asked) (c : ℕ) (party : Party) (before : Session) (serv
         })
         served.facts
 
-    -- what a power cut leaves behind some of its commands
+    -- what a power cut leaves after some of its commands
     pub row-left : (count : ℕ) → LeftIn files party before.store (after_first count before.store row.commands)
     row-left count = record {
       facts =

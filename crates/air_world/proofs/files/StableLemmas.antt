@@ -157,7 +157,7 @@ keeps-due before now side law keeps due =
 
 -- ---- by all entries
 
--- an offered number is below the next one still, and its entry, if it stands, holds no fewer octets
+-- an offered number is below the next one still, and its entry, if it is there, holds no fewer octets
 pub keeps-offer : (before now : Store) (number offset : ℕ) → KeepsEntries before now → IsOfferKept before number offset
     → IsOfferKept now number offset
 keeps-offer before now number offset keeps offer =

@@ -14,7 +14,7 @@ use Rattle.air_world.proofs.files.UploadAsked.{none-acked, receives-offer, serve
 use Rattle.air_world.proofs.files.UploadRows.{IsAskedBy, IsResumed, asked-by, row-asked}
 use Rattle.air_world.proofs.files.UploadServed.{Stage, asks-upload, file-of-upload}
 
--- what is held of a file on its way is the front of it
+-- what is held of a file on its way is a prefix of it
 pub held-front : (store : Store) (number : ℕ) (file held : List ℕ) (caller : CallSign) (entry : Entry)
     → IsFileAt store number file caller
     → entry_of store number ≡ Some entry → entry.holding ≡ partial held → IsFront held file

@@ -30,7 +30,7 @@ next-within octets file place is within =
     ∙ ap (λ (n : ℕ). min (length octets) n) (length-drop place file) in
     omega (arith, count, within)
 
--- with the octets that come next what came is the front still
+-- with the octets that come next what came is a prefix still
 came-next : (held rest octets file : List ℕ) (place : ℕ) → held ++ rest ≡ take place file
     → octets ≡ take (length octets) (drop place file)
     → held ++ (rest ++ octets) ≡ take (place + length octets) file
@@ -38,7 +38,7 @@ came-next held rest octets file place came is =
     sym (append_assoc held rest octets) ∙ ap (λ (front : List ℕ). front ++ octets) came
     ∙ ap (λ (more : List ℕ). take place file ++ more) is ∙ sym (take-add place (length octets) file)
 
--- what is held with the first of what waits is a front of the file
+-- what is held with the first of what waits is a prefix of the file
 pub front-of : (held all file : List ℕ) (place k : ℕ) → held ++ all ≡ take place file
     → IsFront (held ++ take k all) file
 front-of held all file place k came = (
@@ -183,7 +183,7 @@ module _ (files : List Asked) (c : ℕ) (party : Party) (before : Session) (serv
       new = λ number file_length answer. absurd (let no = answer.0 in cc);
     }
 
-    -- ---- the session behind it
+    -- ---- the session after it
 
     abbrev behind : List ℕ
     behind = unfilled_block all

@@ -134,7 +134,7 @@ module _ (files : List Asked) (c : ℕ) (party : Party) (before : Session) (serv
           front = front-of file_taken.held rest at.file from k file_taken.came;
         }))
 
-    -- behind each of the commands
+    -- after each of the commands
     abbrev store_at : ℕ → Store
     store_at count = after_first count before.store (ending_commands number rest moment)
 
@@ -188,7 +188,7 @@ module _ (files : List Asked) (c : ℕ) (party : Party) (before : Session) (serv
       new = λ n file_length answer. absurd (let no = answer.0 in cc);
     }
 
-    -- ---- the session behind it
+    -- ---- the session after it
 
     abbrev took_it : SessionEntry
     took_it = session.took last end_row

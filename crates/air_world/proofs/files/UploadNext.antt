@@ -11,7 +11,7 @@ use Rattle.air_world.proofs.files.JobTook.{IsOffer, has-ok}
 
 -- ---- what was taken
 
--- where no reply was lost each packet that was taken was answered
+-- if no reply was lost each packet that was taken was answered
 pub answered-all : (entries : List SessionEntry) → AllByRecursion session.IsNotLost entries
     → answered_in entries ≡ session.items_in entries
 answered-all [] all = refl
@@ -20,7 +20,7 @@ answered-all (session.took item row ∷ entries) all =
 answered-all (session.lost item row ∷ entries) all = absurd all.0
 answered-all (session.queued due ∷ entries) all = answered-all entries all.1
 
--- The packet behind those taken, and what was said behind it.
+-- The packet after those taken, and what was said after it.
 pub record SaidNext (items more : List Item) (item : Item) (said : List PacketValue) : Type 0 where
   pub packet : PacketValue
   pub is_item : item ≡ Ok packet
@@ -56,7 +56,7 @@ goes-first file place (data_part octets) packets goes = inl (octets, refl)
 goes-first file place data_end packets goes = inr refl
 goes-first file place packet packets goes = absurd goes
 
--- nothing goes on with a file behind DATA_END
+-- nothing goes on with a file after DATA_END
 pub goes-past : (file : List ℕ) (place : ℕ) (packets : List PacketValue) (parts : List (List ℕ)) (item : Item)
     (more : List Item)
     → GoesOnWith file place packets → map Ok packets ≡ data_items parts ++ Ok data_end ∷ item ∷ more → ⊥
@@ -128,7 +128,7 @@ IsNextIn known file_length (refused code) item = ⊥
 IsNextIn known file_length (receives number offset parts) item = ⊤
 IsNextIn known file_length (ended number offset parts word) item = ⊥
 
--- the client took an offer only where one was made
+-- the client took an offer only if one was made
 abbrev pub TookOffered : ClientSide → Receiving → Type 0
 TookOffered side stage = (number offset : ℕ) → Took side (ul_go_resp number offset) → IsOffer stage number offset
 

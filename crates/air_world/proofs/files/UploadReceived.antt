@@ -10,8 +10,8 @@ use Rattle.air_world.proofs.files.SideLemmas.{newest-side}
 use Rattle.air_world.proofs.files.UploadNext.{SaidNext}
 use Rattle.air_world.proofs.files.UploadServed.{Stage, asks-upload, file-of-upload, serves-upload}
 
--- The session receives this file under this number: what is held and what waits is its front, up to this place, and what
--- the client has said behind goes on with it.
+-- The session receives this file under this number: what is held and what waits is its prefix, up to this place, and
+-- what the client has said after that goes on with it.
 pub record TakesFile (store : Store) (me : CallSign) (a : Attempt) (side : ServerSide) (file : List ℕ)
     (number place : ℕ) (rest : List ℕ)
     : Type 0 where
@@ -77,7 +77,7 @@ good-file files party task file good is = by (upload_of party task) refl is
     by None there is_file = absurd (cc)
     by (Some place) there is_file = at place (slice_get files place) refl is_file
 
--- ---- how far it is behind one more packet
+-- ---- how far it is after one more packet
 
 module _ (a : Attempt) (side : ServerSide) (item : Item) (x : SessionEntry) (takes : session.items_of x ≡ item ∷ [])
     (state : State) (up : Bool) where

@@ -51,7 +51,7 @@ module _ (law : UploadsLaw) (caller : CallSign) (moment : ℕ) (store : Store) (
 
 -- ---- UPLOAD_CMD
 
--- The file of this number goes on: it is the caller's, of this length, and so many octets of it are held.
+-- The file of this number goes on: it is the caller's, of this length, and this number of octets of it is held.
 pub record IsResumed (caller : CallSign) (store : Store) (known file_length : ℕ) (row : upload.Row) : Type 0 where
   pub some : 1 ≤ known
   pub entry : Entry
@@ -69,7 +69,7 @@ pub record IsBegunBy (caller : CallSign) (moment : ℕ) (store : Store) (known f
   pub may : can_begin store file_length ≡ true
   pub row_is : row ≡ granted_row caller moment store.next file_length
 
--- It was refused: with code 12 only where the file of the number is complete.
+-- It was refused: with code 12 only if the file of the number is complete.
 pub record IsRefusedBy (store : Store) (known : ℕ) (row : upload.Row) : Type 0 where
   pub code : ℕ
   pub small : code < 256
@@ -135,7 +135,7 @@ module _ (caller : CallSign) (moment : ℕ) (store : Store) (known file_length :
   by-number true is = begins (grind (arith, nat_tests)) (can_begin store file_length) refl
   by-number false is = goes-on-by (entry_of store known) (grind (arith, nat_tests)) refl
 
-  -- what UPLOAD_CMD comes to
+  -- what UPLOAD_CMD gives
   pub asked-by : Asked (upload_row caller moment store known file_length)
   asked-by = by-number (known == 0) refl
 

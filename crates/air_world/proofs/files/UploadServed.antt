@@ -48,7 +48,7 @@ module _ (files : List Asked) (c : ℕ) (party : Party) (before : Session) (serv
   pub items-taken : session.items_in served.side.entries ≡ received_items at.known (length at.file) serves-upload.stage
   items-taken = sym (answered-all served.side.entries served.none_lost) ∙ serves-upload.items
 
-  -- an entry took this packet behind them
+  -- an entry took this packet after them
   pub front-next : (x : SessionEntry) (item : Item) → session.items_of x ≡ item ∷ []
       → (front : ServerTookFront served.attempt (record served.side { entries = served.side.entries ++ x ∷ [] }))
       → map Ok (said_by_client served.attempt.client) ≡ session.items_in served.side.entries ++ item ∷ front.0
@@ -74,7 +74,7 @@ module _ (files : List Asked) (c : ℕ) (party : Party) (before : Session) (serv
       next-said (session.items_in served.side.entries) front.0 item (said_by_client served.attempt.client)
       (front-next x item is front)
 
--- a client to which nothing was offered has said nothing behind UPLOAD_CMD
+-- a client to which nothing was offered has said nothing after UPLOAD_CMD
 nothing-behind : (known : ℕ) (file : List ℕ) (side : ClientSide) (sending : Sending) → TookOffered side unasked
     → IsSendingFile file side sending
     → drop 1 (sending_said known (length file) sending) ≡ []
@@ -82,7 +82,7 @@ nothing-behind known file side silent took sends_file = refl
 nothing-behind known file side asked took sends_file = refl
 nothing-behind known file side (sends number offset packets) took sends_file = absurd (took number offset sends_file.0)
 
--- one that has said something behind UPLOAD_CMD took an offer
+-- one that has said something after UPLOAD_CMD took an offer
 took-some : (known : ℕ) (file : List ℕ) (side : ClientSide) (sending : Sending) (parts : List (List ℕ)) (item : Item)
     (more : List Item)
     → IsSendingFile file side sending

@@ -84,7 +84,7 @@ abbrev pub IsAnsweredBy : Attempt → Option ServerSide → Type 0
 IsAnsweredBy a None = IsUnanswered a
 IsAnsweredBy a (Some side) = IsAnswered a side
 
--- What holds of each attempt of the client at this call with this server, also of older ones: an end that calls was
+-- What is true of each attempt of the client at this call with this server, also of older ones: an end that calls was
 -- never used.
 pub record IsAttempt (me server : CallSign) (a : Attempt) : Type 0 where
   pub window : IsWindow a.window

@@ -68,7 +68,7 @@ ClientTookFront a side = AreFirstOf (job.items_in a.client.entries) (map Ok (sai
 
 -- ---- the client's events
 
--- What comes to the client may come: a job that was just made, a transmission of the server's, or a tick. These are its
+-- What reaches the client may come: a job that was just made, a transmission of the server's, or a tick. These are its
 -- attempts then, with the delivery, if it is one, marked.
 abbrev pub MayComeTo : ClientEvent → List Attempt → List Attempt → Type 0
 MayComeTo (asks job) attempts marked = IsNew job × (marked ≡ attempts)
@@ -96,7 +96,7 @@ pub record MaySay (it : Client) (a : Attempt) : Type 0 where
   pub asked : WorkFits a.client.asked
   pub go_with : NotesGoWith it.lists a.client.attempted.job
 
--- So it is with the current attempt, where the client's link is its, at an event at which the job may say something.
+-- So it is with the current attempt, if the client's link is its, at an event at which the job may say something.
 abbrev pub MaySayAt : ClientEvent → Client → List Attempt → Type 0
 MaySayAt (asks job) it attempts = ⊤
 MaySayAt event it attempts =
@@ -160,8 +160,8 @@ abbrev pub IsKnown : Server → (CallSign → Type 0) → CallSign → Type 0
 IsKnown old IsNew caller =
     IsNew caller ⊎ ((place : ℕ) × (c : Connected) × IsSeatedIn old place c × (caller_of c ≡ caller))
 
--- A step keeps the server's call, window and places, and its store is the one after its commands. No caller comes to a
--- place but one of these.
+-- A step keeps the server's call, window and places, and its store is the one after its commands. No caller gets a
+-- place except one of these.
 pub record StaysServer (old : Server) (gives : Stepped) (IsNew : CallSign → Type 0) : Type 0 where
   pub me_is : gives.new.me ≡ old.me
   pub window_is : gives.new.window ≡ old.window
@@ -205,8 +205,8 @@ pub record SessionHears (did : ServerDid) (gives : Stepped) (frame : FrameValue)
   pub done_is : gives.done ≡ (heard_in did c frame).done
   pub lists_are : gives.new.lists ≡ (heard_in did c frame).lists
 
--- What a frame makes of store and lists: what the session makes of it that hears it; and nothing, where it is a SABM or
--- no session does.
+-- What a frame makes of store and lists: what the session makes of it that hears it; and nothing, if it is a SABM or no
+-- session does.
 pub record HeardLaw : Type 0 where
   pub heard :
       (old : Server) (frame : FrameValue) (moment : ℕ) (gives : Stepped) (place : ℕ) (c : Connected) → IsBetween old
@@ -259,7 +259,7 @@ HeardFrontLaw =
 
 -- ---- what a power cut leaves
 
--- Attempts stay attempts where their sessions are over, and where a transmission is marked as delivered.
+-- Attempts stay attempts if their sessions are over, and if a transmission is marked as delivered.
 pub record LeftLaw : Type 0 where
   pub over : (me server : CallSign) (attempts : List Attempt) → AreAttempts me server attempts
       → AreAttempts me server (all_over attempts)

@@ -1,4 +1,4 @@
--- Lists of which one element is spoken of.
+-- Lists, and what is true of one of their elements.
 use Rattle.std.specs.Prelude.{◌≡◌, ◌⊎◌, ℕ, zero, suc, List, [], ◌∷◌, ◌++◌}
 
 -- one of them is so

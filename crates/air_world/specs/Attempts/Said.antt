@@ -12,7 +12,7 @@ use Rattle.air_world.specs.Attempts.Attempt.{Attempt}
 use Rattle.air_world.specs.Attempts.Lists.{Has, OneIs}
 use Rattle.air_world.specs.Attempts.Sides.{ClientSide, ServerSide, said_by_client, said_by_server}
 
--- the attempt is one to send this file of a task, whose number was known, or 0 where none was
+-- the attempt is one to send this file of a task, whose number was known, or 0 if none was
 abbrev pub AsksUpload : Attempt → ℕ → ℕ → List ℕ → Type 0
 AsksUpload a task known file = a.client.asked ≡ work.Upload (new_upload task known file)
 
@@ -33,7 +33,7 @@ Answers side item answer = OneIs (IsAnswer item answer) side.entries
 abbrev pub Grants : ServerSide → ℕ → ℕ → Type 0
 Grants side number file_length = Answers side (Ok (upload_cmd 0 file_length)) (ul_go_resp number 0)
 
--- the session has told that the file of this number is complete: it said UL_ACK_RESP behind its offer, or code 12
+-- the session has said that the file of this number is complete: it said UL_ACK_RESP after its offer, or code 12
 abbrev pub Acknowledges : ServerSide → ℕ → Type 0
 Acknowledges side number =
     ((offset : ℕ) × Offers side number offset) × Has (said_by_server side) ul_ack_resp
@@ -55,7 +55,7 @@ IsTaken item (job.queued due) = ⊥
 abbrev pub Took : ClientSide → PacketValue → Type 0
 Took side packet = OneIs (IsTaken (Ok packet)) side.entries
 
--- the octets of a packet, where it is DATA
+-- the octets of a packet, if it is DATA
 abbrev pub octets_of_data : PacketValue → List ℕ
 octets_of_data (data_part octets) = octets
 octets_of_data packet = []
@@ -75,7 +75,7 @@ octets_taken items = flat_map octets_of_item items
 abbrev pub octets_come : ServerSide → ℕ
 octets_come side = length (octets_taken (session.items_in side.entries))
 
--- what one side has said behind the packets that the other one took
+-- what one side has said after the packets that the other one took
 abbrev pub said_behind_server : ServerSide → ClientSide → List PacketValue
 said_behind_server server client = drop (length (session.items_in server.entries)) (said_by_client client)
 

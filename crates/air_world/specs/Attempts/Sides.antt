@@ -86,8 +86,8 @@ abbrev pub IsGreeting : PacketValue → Type 0
 IsGreeting packet = (moment : ℕ) × (left : Bool) × (packet ≡ greeting moment left)
 
 -- The session is in the state to which its packets lead, those of the octets that its end accepted and those that it
--- queued. It has said LOGIN_RESP, and then its replies and what it queued, in order. This holds also of one that is
--- over. It has taken each packet, but for those behind one whose replies didn't fit: with that one it was over. The
+-- queued. It has said LOGIN_RESP, and then its replies and what it queued, in order. This is true also of one that is
+-- over. It has taken each packet, except those after one whose replies didn't fit: with that one it was over. The
 -- octets of the packets that it didn't take are neither in its entries nor in its rest.
 pub record IsSession (side : ServerSide) : Type 0 where
   pub reached : SessionReaches (caller_of side.connected) command side.entries side.connected.state
@@ -101,8 +101,8 @@ pub record IsSession (side : ServerSide) : Type 0 where
   pub fits : AllByRecursion Fits (said_by_server side)
 
 -- The job is in the state to which its packets lead, those of the octets that its end accepted and those that it
--- queued, with the outcome, if they have one. Where its link closed before an outcome, that is what became of the
--- attempt. It has said its replies and what it queued, in order. This holds also of one that is gone.
+-- queued, with the outcome, if they have one. If its link closed before an outcome, that is what became of the attempt.
+-- It has said its replies and what it queued, in order. This is true also of one that is gone.
 pub record IsJob (side : ClientSide) : Type 0 where
   pub begun : IsNotBegun side.asked
   pub reached : JobReaches (new_job side.asked) side.entries side.attempted.job

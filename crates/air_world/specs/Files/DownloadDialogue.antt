@@ -14,7 +14,7 @@ use Rattle.air_world.specs.Attempts.Said.{Took}
 use Rattle.air_world.specs.Attempts.Sides.{ClientSide, ServerSide, said_by_client}
 use Rattle.air_world.specs.Files.UploadDialogue.{answered_in}
 
--- the word on a file that came, or didn't; and the answer to it
+-- DL_ACK_CMD or DL_NAK_CMD for a file that came, or didn't; and the answer to it
 abbrev pub IsWord : PacketValue → Type 0
 IsWord packet = (packet ≡ dl_ack_cmd) ⊎ (packet ≡ dl_nak_cmd)
 
@@ -22,8 +22,8 @@ abbrev pub IsLast : PacketValue → Type 0
 IsLast packet = (packet ≡ dl_completed_resp) ⊎ (packet ≡ dl_aborted_resp)
 
 -- How far a session of a download has come: nothing was asked; it refused an offset, with a code; it sends from an
--- offset on, and DATA with these octets were queued; all were, and it waits for the word; or the word came, and it
--- gave its answer.
+-- offset on, and DATA with these octets were queued; all were, and it waits for DL_ACK_CMD or DL_NAK_CMD; or that came,
+-- and it gave its answer.
 pub data Sending : Type 0 where
   unasked : Sending
   refused : ℕ → ℕ → Sending
@@ -88,7 +88,7 @@ pub record ServesDownload (store : Store) (number : ℕ) (side : ServerSide) : T
   pub sent : AreSent store number file stage
 
 -- How far a client has come with a download: it has said nothing; it has asked from an offset on; or all came, and it
--- gave its word on it.
+-- said DL_ACK_CMD or DL_NAK_CMD.
 pub data Fetching : Type 0 where
   silent : Fetching
   asked : ℕ → Fetching
@@ -100,13 +100,13 @@ fetching_said number silent = []
 fetching_said number (asked offset) = download_cmd number offset 0 ∷ []
 fetching_said number (told offset word) = download_cmd number offset 0 ∷ word ∷ []
 
--- its word came behind DATA_END
+-- if all came, it said DL_ACK_CMD or DL_NAK_CMD, and it took DATA_END
 abbrev pub IsFetchingFile : ClientSide → Fetching → Type 0
 IsFetchingFile side silent = ⊤
 IsFetchingFile side (asked offset) = ⊤
 IsFetchingFile side (told offset word) = IsWord word × Took side data_end
 
--- A client of a download of the file of this number has said so much.
+-- A client of a download of the file of this number has said this much.
 pub record SaysDownload (number : ℕ) (side : ClientSide) : Type 0 where
   pub stage : Fetching
   pub said : said_by_client side ≡ fetching_said number stage

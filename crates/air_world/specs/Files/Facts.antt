@@ -43,8 +43,8 @@ IsGranted task number a =
     (file : List ℕ) × (side : ServerSide) × AsksUpload a task 0 file × (a.server ≡ Some side)
     × Grants side number (length file)
 
--- A task's number comes from the answer to a new upload of it. It is below the next one, and the entry of that
--- number, if it stands, is on the way to the task's file, or is it.
+-- A task's number comes from the answer to a new upload of it. It is below the next one, and the entry of that number,
+-- if it is there, is on the way to the task's file, or is it.
 pub record IsNumbered (store : Store) (party : Party) (task number : ℕ) (file : List ℕ) : Type 0 where
   pub below : number < store.next
   pub stands : IsFileAt store number file party.client.me
@@ -67,9 +67,9 @@ pub record IsGrantKept (store : Store) (party : Party) (a : Attempt) (number fil
   pub length_is : file_length ≡ length file
   pub begun : ¬ HasNumber party task number → WhereStands store number (IsBegun party.client.me file_length)
 
--- The file that a session receives: the entry is the caller's and under way. What is held and what waits is the front
--- of the job's file, as many octets as the offset that was offered and the DATA that came since. What the client has
--- said behind them goes on with the file.
+-- The file that a session receives: the entry is the caller's and under way. What is held and what waits is a prefix of
+-- the job's file, as many octets as the offset that was offered and the DATA that came since. What the client has said
+-- after them goes on with the file.
 pub record Receives (store : Store) (party : Party) (a : Attempt) (side : ServerSide) (number : ℕ) (rest : List ℕ)
     : Type 0 where
   pub task : ℕ
@@ -104,7 +104,7 @@ GoesOnWithTask party a =
 abbrev pub AreFirstOf : Store → ℕ → List ℕ → Type 0
 AreFirstOf store number octets = (file : List ℕ) × (file_of store number ≡ Some file) × IsFront octets file
 
--- the same, where there are any
+-- the same, if there are any
 abbrev pub AreFirstIfAny : Store → ℕ → List ℕ → Type 0
 AreFirstIfAny store number octets = octets ≢ [] → AreFirstOf store number octets
 
@@ -134,7 +134,7 @@ FetchesIn fetch.Login store party a at = at.rest ≡ []
 FetchesIn fetch.Fetching store party a at = Fetches store party a at
 FetchesIn fetch.Done store party a at = (at.rest ≡ []) × (fault_code (got party at.number) ≡ None)
 
--- the same by the outcome, after which only a file that came whole is spoken of
+-- the same by the outcome, after which it is only about a file that came whole
 abbrev pub FetchesBy : Option Ending → Work → Store → Party → Attempt → Type 0
 FetchesBy None (work.Download at) store party a = FetchesIn at.phase store party a at
 FetchesBy (Some ending) (work.Download at) store party a = IsCheckedIn at.phase (got party at.number)
@@ -152,13 +152,13 @@ HasFetched party a =
     (number : ℕ) → outcome_of a.client.attempted ≡ Some (reached.Fetched number)
     → fault_code (got party number) ≡ None
 
--- No download was asked from behind what the client has got: nothing that was got is given up.
+-- No download was asked from beyond the end of what the client has got: nothing that was got is given up.
 abbrev pub AskedWithin : Party → Attempt → Type 0
 AskedWithin party a =
     (number offset : ℕ) → Has (said_by_client a.client) (download_cmd number offset 0)
     → offset ≤ length (got party number)
 
--- the fact of a session that offered: the number is below the next one, and where its entry stands it holds that much
+-- the fact of a session that offered: the number is below the next one, and if its entry is there it holds that much
 abbrev pub IsOfferKept : Store → ℕ → ℕ → Type 0
 IsOfferKept store number offset = (number < store.next) × WhereStands store number (HoldsTo offset)
 
@@ -189,14 +189,14 @@ pub record HasSessionFacts (store : Store) (party : Party) : Type 0 where
   pub serves : EachSide party (λ a side. Serves store a.client.asked side)
   pub says : EachAttempt party (λ a. Says a.client.asked a.client)
 
--- Of files that were got: each is the front of a complete one; what comes still goes on with it.
+-- Of files that were got: each is a prefix of a complete one; what comes still goes on with it.
 pub record HasGotFacts (store : Store) (party : Party) : Type 0 where
   pub got_front : (number : ℕ) → AreFirstIfAny store number (got party number)
   pub fetching : IfSome (newest party) (IsFetching store party)
   pub fetched : EachAttempt party (HasFetched party)
   pub asked_within : EachAttempt party (AskedWithin party)
 
--- what holds of a client in a store
+-- what is true of a client in a store
 pub record HasFacts (store : Store) (files : List Asked) (party : Party) : Type 0 where
   pub tasks : HasTaskFacts store files party
   pub sessions : HasSessionFacts store party

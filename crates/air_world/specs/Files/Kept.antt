@@ -1,4 +1,4 @@
--- When a file stands as its client's (FTL0 1990, uploading; PFH 1990).
+-- When a file is kept as its client's (FTL0 1990, uploading; PFH 1990).
 use Rattle.std.specs.Prelude.{◌≡◌, ◌⊎◌, ℕ, ◌≤◌, List, length, None, Some}
 use Rattle.px_base.specs.CallSign.{CallSign}
 use Rattle.px_base.specs.Octets.{IsFront}
@@ -13,8 +13,8 @@ use Rattle.air_world.specs.Attempts.Party.{Asked, IsFileOf, Party}
 abbrev pub HoldsAck : Party → ℕ → ℕ → Type 0
 HoldsAck party task number = noted_at party.client.lists task ≡ Some (noted.Acked task number)
 
--- The entry of this number is the caller's, and complete with the file, stamped with its number, its caller and its
--- own moment. So it has the client's body, and the client's items but for those that the server fills in.
+-- The entry of this number is the caller's, and complete with the file, stamped with its number, its caller and its own
+-- moment. So it has the client's body, and the client's items except those that the server fills in.
 pub record IsKept (store : Store) (number : ℕ) (file : List ℕ) (caller : CallSign) : Type 0 where
   pub entry : Entry
   pub is_entry : entry_of store number ≡ Some entry
@@ -39,17 +39,17 @@ pub record IsUnderWay (store : Store) (number : ℕ) (file : List ℕ) (caller :
   pub holds : entry.holding ≡ partial held
   pub front : IsFront held file
 
--- no entry of this number stands, or it is on the way to the file, or is the file
+-- there is no entry of this number, or it is on the way to the file, or is the file
 abbrev pub IsFileAt : Store → ℕ → List ℕ → CallSign → Type 0
 IsFileAt store number file caller =
     (entry_of store number ≡ None) ⊎ (IsUnderWay store number file caller ⊎ IsKept store number file caller)
 
--- the entry of this number, if it stands, is on the way to the task's file, or is it
+-- the entry of this number, if it is there, is on the way to the task's file, or is it
 abbrev pub IsTaskAt : List Asked → Store → Party → ℕ → ℕ → Type 0
 IsTaskAt files store party task number =
     (file : List ℕ) × IsFileOf files party task file × IsFileAt store number file party.client.me
 
--- where an entry of this number stands it is so
+-- if there is an entry of this number it is so
 abbrev pub WhereStands : Store → ℕ → (Entry → Type 0) → Type 0
 WhereStands store number P = (entry : Entry) → entry_of store number ≡ Some entry → P entry
 

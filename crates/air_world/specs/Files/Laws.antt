@@ -44,7 +44,7 @@ use Rattle.air_world.specs.Files.SoundStore.{IsSoundStore}
 use Rattle.air_world.specs.Files.Tasks.{AreTasks, IsWork, StandsBy}
 use Rattle.air_world.specs.Files.Uploads.{IsGoodFile}
 
--- What stands of a client beside its facts: its call; the files of all uploads; its tasks, and the works of its
+-- What is true of a client besides its facts: its call; the files of all uploads; its tasks, and the works of its
 -- attempts.
 pub record Stands (files : List Asked) (c : ℕ) (party : Party) : Type 0 where
   pub call : IsCall party.client.me
@@ -106,8 +106,8 @@ pub record IsServed (files : List Asked) (c : ℕ) (party : Party) (now : Sessio
   pub lists : AreComplete now.store now.lists
   pub facts : HasFacts now.store files party
 
--- These entries of a session, from one to another, took the first of the packets that its client said. Where none of
--- them was lost the session may be up behind them.
+-- These entries of a session, from one to another, took the first of the packets that its client said. If none of them
+-- was lost the session may be up after them.
 pub record SessionGoes (party : Party) (moment : ℕ) (before now : Session) (entries : List SessionEntry) (up : Bool)
     (a : Attempt) (side : ServerSide) : Type 0 where
   pub goes : session.GoesBy party.client.me moment before entries now
@@ -121,15 +121,15 @@ AreNewGrants next side entries =
     (number file_length : ℕ) → Grants (record side { entries = side.entries ++ entries }) number file_length
     → Grants side number file_length ⊎ (next ≤ number)
 
--- What a power cut leaves of the client where it comes after some of the commands of its session's entries: the facts
--- hold in the store then, with the sessions over and as they were before, and the store is such.
+-- What a power cut leaves of the client if it comes after some of the commands of its session's entries: the facts are
+-- true in the store then, with the sessions over and as they were before, and the store is such.
 pub record LeftIn (files : List Asked) (party : Party) (before now : Store) : Type 0 where
   pub facts : HasFacts now files (sessions_over party)
   pub store : IsSoundStore now
   pub follows : FollowsBy party.client.me before now
 
--- What entries of a session, from one to another, leave of the client: the facts hold behind them, and so they do
--- where a power cut comes after the first of their commands. Each command is allowed in its turn, and none gives a file
+-- What entries of a session, from one to another, leave of the client: the facts are true after them, and so they are
+-- if a power cut comes after the first of their commands. Each command is allowed in its turn, and none gives a file
 -- up: one that came whole has no fault.
 pub record SessionKeeps (files : List Asked) (party done : Party) (before now : Session) (entries : List SessionEntry)
     (side : ServerSide) : Type 0 where
@@ -203,7 +203,7 @@ pub record TookFront (a : Attempt) (entries : List JobEntry) (side : ServerSide)
       ClientTookFront (record a { client = record a.client { entries = a.client.entries ++ entries } }) side
   pub server : ServerTookFront a side
 
--- what a session said, where there is one, came so; without one nothing came
+-- what a session said, if there is one, came so; without one nothing came
 abbrev pub JobTookFront : Attempt → List JobEntry → Type 0
 JobTookFront a [] = ⊤
 JobTookFront a (entry ∷ entries) = (side : ServerSide) × TookFront a (entry ∷ entries) side
@@ -227,7 +227,7 @@ pub record JobGoes (party : Party) (entries : List JobEntry) (lists_now : Lists)
   pub goes : job.GoesBy party.client.lists a.client.attempted.job entries lists_now now.job
   pub front : JobTookFront a entries
 
--- What entries of a job leave of the client: the facts hold behind them, and so they do where the client starts again
+-- What entries of a job leave of the client: the facts are true after them, and so they are if the client starts again
 -- from its notes after the first of their commands, with the attempt as it was before.
 pub record JobKeeps (store : Store) (files : List Asked) (party done : Party) (entries : List JobEntry) : Type 0 where
   pub facts : HasFacts store files done
@@ -236,7 +236,7 @@ pub record JobKeeps (store : Store) (files : List Asked) (party done : Party) (e
       → HasFacts store files
       (started_with party (notes.after_first count party.client.lists (job.commands_in entries)))
 
--- So entries do of a job at a work of this kind, with whatever end of the link behind them.
+-- So entries do of a job at a work of this kind, with whatever end of the link after them.
 abbrev pub JobLawOf : (Work → Type 0) → (List JobEntry → Type 0) → Type 0
 JobLawOf IsKind AreSuch =
     (store : Store) (files : List Asked) (c : ℕ) (party : Party) (entries : List JobEntry) (lists_now : Lists)
@@ -248,8 +248,8 @@ JobLawOf IsKind AreSuch =
 abbrev pub JobLaw : Type 0
 JobLaw = JobLawOf (λ asked. ⊤) (λ entries. ⊤)
 
--- Entries of a job leave the client's tasks as tasks of its uploads, also where it starts again from its notes after
--- the first of their commands.
+-- Entries of a job leave the client's tasks as tasks of its uploads, also if it starts again from its notes after the
+-- first of their commands.
 abbrev pub JobTasksLaw : Type 0
 JobTasksLaw =
     (files : List Asked) (c : ℕ) (party : Party) (entries : List JobEntry) (lists_now : Lists) (before now : JobState)
@@ -272,7 +272,7 @@ LooksServed None (Some new) = ⊥
 LooksServed (Some old) None = ⊥
 LooksServed (Some old) (Some new) = LooksLikeSession old new
 
--- the attempt is such as that one was, but for the ends of its links and what was sent
+-- the attempt is such as that one was, except for the ends of its links and what was sent
 pub record LooksLike (old new : Attempt) : Type 0 where
   pub asked : new.client.asked ≡ old.client.asked
   pub entries : new.client.entries ≡ old.client.entries
@@ -296,9 +296,9 @@ pub record IsSameParty (old new : Party) : Type 0 where
       (a b : Attempt) → newest old ≡ Some a → newest new ≡ Some b → new.client.attempt ≡ Some b.client.attempted
       → old.client.attempt ≡ Some a.client.attempted
 
--- What holds of a client holds still of one that is such as that one was; in a store that another caller's commands
--- made; where its sessions are over; where it starts again from its notes; and without an entry under way that no
--- session receives.
+-- What is true of a client is true still of one that is such as that one was; in a store that another caller's commands
+-- made; if its sessions are over; if it starts again from its notes; and without an entry under way that no session
+-- receives.
 pub record StayLaw : Type 0 where
   pub same :
       (store : Store) (files : List Asked) (old new : Party) → IsSameParty old new → HasFacts store files old
@@ -335,8 +335,8 @@ pub record IsGreeted (side : ServerSide) : Type 0 where
   pub entries : side.entries ≡ []
   pub state : side.connected.state ≡ command
 
--- The facts of a client of which nothing was asked; behind an attempt that begins; behind a session that does; with a
--- further upload, of whichever client; and with its task.
+-- The facts of a client of which nothing was asked; after an attempt begins; after a session does; with a further
+-- upload, of whichever client; and with its task.
 pub record BeginLaw : Type 0 where
   pub first : (server me : CallSign) (w : Window) (limit : ℕ)
       → HasFacts (empty_store limit) [] (first_party server w me)

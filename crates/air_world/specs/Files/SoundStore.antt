@@ -1,4 +1,4 @@
--- What holds of the server's store in the world.
+-- What is true of the server's store in the world.
 use Rattle.std.specs.Prelude.{◌≡◌, ◌+◌, length}
 use Rattle.std.specs.List.{AllByRecursion}
 use Rattle.px_base.specs.Octets.{IsOctets}
@@ -6,7 +6,7 @@ use Rattle.file_store.specs.Headers.{KeepsRules}
 use Rattle.file_store.specs.IsStore.{IsStore}
 use Rattle.file_store.specs.Store.{Store, octets_of}
 
--- What holds of the store: the rules of a store; each complete file keeps the rules of files; and what is held are
+-- What is true of the store: the rules of a store; each complete file keeps the rules of files; and what is held are
 -- octets.
 pub record IsSoundStore (store : Store) : Type 0 where
   pub is_store : IsStore store

@@ -35,8 +35,8 @@ pub record IsOfferFor (known number offset : ℕ) : Type 0 where
   pub same : 1 ≤ known → number ≡ known
 
 -- How far a session of an upload has come: nothing was asked; it refused, with a code; it receives the file, with a
--- number and from an offset on, of which DATA with these octets came; or DATA_END came behind them, and it gave its
--- word.
+-- number and from an offset on, of which DATA with these octets came; or DATA_END came after them, and it said
+-- UL_ACK_RESP or UL_NAK_RESP.
 pub data Receiving : Type 0 where
   unasked : Receiving
   refused : ℕ → Receiving
@@ -63,7 +63,7 @@ receiving_said (refused code) = ul_error_resp code ∷ []
 receiving_said (receives number offset parts) = ul_go_resp number offset ∷ []
 receiving_said (ended number offset parts word) = ul_go_resp number offset ∷ word ∷ []
 
--- this is the word on a file
+-- this is UL_ACK_RESP or UL_NAK_RESP
 abbrev pub IsWord : PacketValue → Type 0
 IsWord packet = (packet ≡ ul_ack_resp) ⊎ ((code : ℕ) × (packet ≡ ul_nak_resp code))
 
@@ -120,7 +120,7 @@ IsSendingFile file side asked = ⊤
 IsSendingFile file side (sends number offset packets) =
     Took side (ul_go_resp number offset) × GoesOnWith file offset packets
 
--- A client of an upload of this file, with this number, has said so much.
+-- A client of an upload of this file, with this number, has said this much.
 pub record SaysUpload (known : ℕ) (file : List ℕ) (side : ClientSide) : Type 0 where
   pub stage : Sending
   pub said : said_by_client side ≡ sending_said known (length file) stage

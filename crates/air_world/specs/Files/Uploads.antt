@@ -8,7 +8,7 @@ use Rattle.pfh_items.specs.Layout.{header_text}
 use Rattle.pfh_writer.specs.Built.{BuilderValue, built_items, item}
 use Rattle.file_store.specs.Limits.{longest_file}
 
--- the octets of the body of this upload, so many: (7 i + 13 upload) mod 256, each by its place i from 0 on
+-- the octets of the body of this upload, this number of them: (7 i + 13 upload) mod 256, each by its place i from 0 on
 abbrev pub body_octets : ℕ → ℕ → List ℕ
 body_octets upload count = map (λ i. (7 * i + 13 * upload) % 256) (range_with_len 0 count)
 
@@ -33,7 +33,7 @@ file_header =
       others = item 0x11 (replicate 6 32) ∷ item 0x12 (replicate 4 0) ∷ [];
     }
 
--- the file of an upload with a body of so many octets
+-- the file of an upload with a body of this number of octets
 unfoldable pub upload_file : ℕ → ℕ → List ℕ
 upload_file upload count =
     header_text (built_items file_header (body_octets upload count)) ++ body_octets upload count

@@ -1,4 +1,4 @@
--- What an upload that comes to the outcome that its file was acknowledged noted.
+-- What an upload noted whose outcome is that its file was acknowledged.
 use Rattle.std.proofs.Common.{◌≡◌, ℕ, ◌+◌, ◌-◌, List, [], ◌∷◌, ◌++◌, length, refl, ap, sym, ◌∙◌, subst, arith}
 use Rattle.std.proofs.Common.{append_assoc, append-nil, length-append}
 use Rattle.client_notes.specs.State.{StandsFor}
@@ -24,7 +24,7 @@ task-row at packet = upload-rows (λ row. row.state.task ≡ at.task) at rows pa
       ack = λ number is. refl;
     }
 
--- ---- commands behind others
+-- ---- commands after others
 
 acks-behind : (lists : Lists) (commands noted : List NotesCommand) (task number : ℕ) → AcknowledgesIn (after_all lists commands) task number noted → AcknowledgesIn lists task number (commands ++ noted)
 acks-behind lists commands noted task number h = record {

@@ -8,7 +8,7 @@ use Rattle.ftl0_client.proofs.attempt.EndedLemmas.{stays-law}
 use Rattle.ftl0_client.proofs.attempt.TakingLemmas.{taking-keeps}
 use Rattle.ftl0_client.proofs.attempt.SettlingLemmas.{settled-keeps}
 
--- ---- the link is down where that is told
+-- ---- the link is down if that is reported
 
 abbrev TellsDown : Outcome → Type 0
 TellsDown o = (reason : Why) → o.heard ≡ Closed reason → o.after.state ≡ Down
@@ -60,7 +60,7 @@ tick-down end false true true reason is = refl
 tick-down end false true false reason is = absurd (cc is)
 tick-down end false false spent reason is = absurd (cc is)
 
--- ---- a link that is down tells nothing, and stays down
+-- ---- a link that is down reports nothing, and stays down
 
 module _ (w : Window) (end : LinkEnd) (frame : FrameValue) (is : end.state ≡ Down) where
   pub still-silent : heard_of w end frame ≡ Nothing
@@ -107,7 +107,7 @@ module _ (w : Window) (lists : Lists) (a : Attempted) (frame : FrameValue) (told
   abbrev b : Attempted
   b = with_end a (after_frame w a.end frame)
 
-  -- the event, by what the link told
+  -- the event, by what the link reported
   abbrev event : Heard → Happened
   event t = settling (taking lists (after_told t b octets) (packets_told t a octets))
 
@@ -115,7 +115,7 @@ module _ (w : Window) (lists : Lists) (a : Attempted) (frame : FrameValue) (told
   heard-still : a.end.state ≡ Down → (hearing w lists a frame).after ≡ b
   heard-still is = ap (λ (t : Heard). (event t).after) (still-silent w a.end frame is) ∙ settled-still b (still-down w a.end frame is)
 
-  -- where why it went down is as it was
+  -- if why it went down is as it was
   told-same : (hearing w lists a frame).after.down ≡ a.down → IsToldDown (hearing w lists a frame).after
   told-same same reason is =
       let down = told reason (sym same ∙ is) in
@@ -143,7 +143,7 @@ module _ (w : Window) (lists : Lists) (a : Attempted) (frame : FrameValue) (told
   abbrev ticked : Attempted
   ticked = with_end a (after_tick a.end)
 
-  -- the event, by what is told of the tick
+  -- the event, by what is reported of the tick
   abbrev tick_event : Option Why → Attempted
   tick_event o = settled (after_told (heard_of_tick o) ticked [])
 

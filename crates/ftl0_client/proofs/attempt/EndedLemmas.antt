@@ -11,7 +11,7 @@ taking-ended lists a (item ∷ items) ending is =
     let one : taking_one lists a item ≡ quietly a = ap (λ (o : Option Ending). taking_by o lists a item) is in
     ap (λ (h : Happened). after_noting h.noted (taking (after_all lists h.noted) h.after items)) one ∙ taking-ended lists a items ending is
 
--- what the link tells leaves the job
+-- what the link reports leaves the job
 pub told-job : (told : Heard) (a : Attempted) (octets : List ℕ) → (after_told told a octets).job ≡ a.job
 told-job Nothing a octets = refl
 told-job Opened a octets = refl
@@ -22,7 +22,7 @@ told-job (Closed why) a octets = refl
 pub parting-job : (a : Attempted) → (parting_later a).job ≡ a.job
 parting-job a = cond_both (is_later a.job.ending && is_all_free a.end) _ _ (λ (now : Attempted). now.job ≡ a.job) (λ both. refl) (λ not_both. refl)
 
--- nor does the end of an event change it, where nothing is due
+-- nor does the end of an event change it, if nothing is due
 settled-job : (a : Attempted) → next_due a.job ≡ None → (settled a).job ≡ a.job
 settled-job a none =
     let q : Attempted = queuing (free_octets a.end) a in

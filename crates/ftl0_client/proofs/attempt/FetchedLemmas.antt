@@ -1,4 +1,4 @@
--- What a download that comes to the outcome that its file was fetched noted.
+-- What a download noted whose outcome is that its file was fetched.
 use Rattle.std.proofs.Common.{◌≡◌, ℕ, List, [], ◌++◌, refl, sym, ◌∙◌, subst}
 use Rattle.ftl0_client_job.specs.Faults.{fault_code}
 use Rattle.ftl0_client_job.specs.declared.ending.Outcome.TheVariants as outcome

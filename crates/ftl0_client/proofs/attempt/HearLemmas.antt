@@ -16,7 +16,7 @@ module _ {D : Type 0} (g : Ghosts D) where
 
   module _ (on : (first second third : D) → g.lasts first second → g.lasts second third → g.lasts first third) (old mid new : NotesState) (disk disk_m disk_n : D) (done commands : List NotesCommand)
       (first : DoesSeveral g ⊥ old mid disk disk_m done) where
-    -- what stands since commands began, behind which the disk failed or no memory was there
+    -- what is true since commands began, after which the disk failed or there was no memory
     noted-since : (more : List NotesCommand) (why : Halt) → HasNoted {T = ⊤} g mid new disk_m disk_n commands (Err why) → Leaves g disk disk_n (λ _. MakesFirst old.lists (done ++ (commands ++ more)))
     noted-since more stop.Disk noted =
         subst (λ (all : List NotesCommand). Leaves g disk disk_n (λ _. MakesFirst old.lists all)) (append_assoc done commands more)
@@ -30,13 +30,13 @@ module _ {D : Type 0} (g : Ghosts D) where
         subst (λ (all : List NotesCommand). Leaves g disk disk_n (λ _. MakesFirst old.lists all)) same
         (leaves-front old.lists disk disk_n (done ++ some) (others ++ more) (Several-then g on ⊥ ⊥ old mid new disk disk_m disk_n done some (λ never. never) first noted.2).does.since)
 
-    -- and what is said of the counts
+    -- and what is claimed of the counts
     noted-puts : (why : Halt) → HasNoted {T = ⊤} g mid new disk_m disk_n commands (Err why) → PutsBy g disk disk_n (Err why)
     noted-puts stop.Disk noted = puts_same g disk disk_n ⊤ _ (λ all. refl) (λ e. tt) (puts_on g on disk disk_m disk_n ⊥ ⊤ (λ never. never) first.does.puts noted.does.puts)
     noted-puts stop.OutOfMemory noted = puts_same g disk disk_n ⊥ _ (λ never. absurd never) (λ e. cc e) (puts_on g on disk disk_m disk_n ⊥ ⊥ (λ never. never) first.does.puts noted.2.does.puts)
 
   module _ (on : (first second third : D) → g.lasts first second → g.lasts second third → g.lasts first third) (a : Attempted) (items : List Item) (before now : WithNotes AttemptState D) where
-    -- the event's commands are those before the packet at which it stopped, that packet's, and others behind them
+    -- the event's commands are those before the packet at which it stopped, that packet's, and others after them
     stopped-front : (why : Halt) (h : StopsAmong g a items before now why) → (more : List NotesCommand) × ((taking before.notes.lists a items).noted ≡ (taking before.notes.lists a h.before).noted ++ ((job_row h.notes_then.lists (taking before.notes.lists a h.before).after.job h.item).commands ++ more))
     stopped-front why h =
         let p : Happened = taking before.notes.lists a h.before in
@@ -51,7 +51,8 @@ module _ {D : Type 0} (g : Ghosts D) where
         subst (λ (cs : List NotesCommand). Leaves g before.disk now.disk (λ _. MakesFirst before.notes.lists cs)) (sym front.1)
         (noted-since on before.notes h.notes_then now.notes before.disk h.disk_then now.disk p.noted (job_row h.notes_then.lists p.after.job h.item).commands h.done front.0 why h.stops.noted)
 
-    -- where the disk failed: the commands that were begun, in one of which it did, are the first of those that the event has
+    -- if the disk failed: the commands that were begun, in one of which it did, are the first of those that the event
+    -- has
     stopped-does : StopsAmong g a items before now stop.Disk → (begun : List NotesCommand) × (more : List NotesCommand) × ((taking before.notes.lists a items).noted ≡ begun ++ more) × DoesSeveral g ⊤ before.notes now.notes before.disk now.disk begun
     stopped-does h =
         let p : Happened = taking before.notes.lists a h.before in
@@ -80,7 +81,7 @@ module _ {D : Type 0} (g : Ghosts D) where
       let does = stopped-does on heard items (with_notes h.was old.notes disk) (with_notes h.attempt new.notes disk_now) h.stops in
       (does.0, does.1, ap (λ (o : Option Attempted). (hearing_by client frame o).noted) h.hears ∙ ap (λ (l : Lists). (taking l heard items).noted) (sym lists) ∙ does.2, does.3)
 
-  -- what the link told decides
+  -- what the link reported decides
   pub hears-told : (w : Window) (frame : FrameValue) (before now : WithNotes AttemptState D) (told : Heard) (result : Result ⊤ Halt) → Tells before.state.link (λ w end. heard_of w end frame) told
       → (a : Attempted) → IsAttempt w before.state a
       → HearsBy g w (taking before.notes.lists (after_told told (with_end a (after_frame w a.end frame)) frame.kind.information) (packets_told told a frame.kind.information))

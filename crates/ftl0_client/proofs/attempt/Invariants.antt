@@ -2,7 +2,7 @@
 use Rattle.std.proofs.Common.{ℕ, List}
 use Rattle.ftl0_client.proofs.Names.{Ok, ⊤, Ghosts, free_octets, Item, HasFront, AttemptState, Becomes, LeavesFit, Working, KeepsUp, MayAnswer, Takes, queuing}
 
--- Packets were taken from the front of the octets, and these are left.
+-- Packets were taken from the beginning of the octets, and these are left.
 pub record IsTaking {D : Type 0} (g : Ghosts D) (octets left : List ℕ) (before now : Working D) : Type 0 where
   pub items : List Item
   pub front : HasFront octets left items

@@ -1,4 +1,4 @@
--- How an event comes to an outcome, packet by packet.
+-- How an event reaches an outcome, packet by packet.
 use Rattle.std.proofs.Common.{◌≡◌, ℕ, Bool, true, false, List, [], ◌∷◌, ◌++◌, refl, ap, sym, ◌∙◌, subst}
 use Rattle.ftl0_client_job.specs.declared.ending.Outcome.{Outcome}
 use Rattle.ftl0_client_job.specs.declared.ending.Outcome.TheVariants as outcome
@@ -28,7 +28,8 @@ reached-by (Some ending) down of not is = (ending, refl, same_Some ending.outcom
 
 -- ---- packets
 
--- Of one kind of work: what a packet's row is, what the notes need to go with it, and what is to be shown of the commands by which an event comes to this outcome.
+-- Of one kind of work: what a packet's row is, what the notes need to go with it, and what is to be shown of the
+-- commands by which an event reaches this outcome.
 module _ {S : Type 0} (made : S → Work) (item_row : Lists → S → Item → Row S) (Has : Lists → S → Type 0) (Shows : Lists → S → List NotesCommand → Type 0) (result : Outcome)
     (row_is : (lists : Lists) (at : S) (item : Item) → job_row lists (new_job (made at)) item ≡ row_of made (item_row lists at item))
     (goes : (lists : Lists) (at : S) (item : Item) → Has lists at → (item_row lists at item).ending ≡ None → Has (after_all lists (item_row lists at item).commands) (item_row lists at item).state)
@@ -36,7 +37,7 @@ module _ {S : Type 0} (made : S → Work) (item_row : Lists → S → Item → R
     (behind : (lists : Lists) (at : S) (item : Item) (noted : List NotesCommand) → Shows (after_all lists (item_row lists at item).commands) (item_row lists at item).state noted
     → Shows lists at ((item_row lists at item).commands ++ noted))
     (other : (kind : ℕ) → outcome.Strange kind ≡ result → ⊥) (not_link : (why : Why) → outcome.LinkDown why ≡ result → ⊥) where
-  -- what packets come to
+  -- what packets reach
   abbrev Reaches : List Item → Ending → Type 0
   Reaches items e =
       (lists : Lists) (a : Attempted) (at : S) → a.job ≡ new_job (made at) → Has lists at → (taking lists a items).after.job.ending ≡ Some e → Shows lists at (taking lists a items).noted

@@ -9,7 +9,7 @@ pub due-put : (due : Option (DuePacket JobState)) (job job_n : JobState) (out ou
 due-put None job job_n out out_n puts = absurd (cc puts.0)
 due-put (Some next) job job_n out out_n puts = (next, refl, puts.1, puts.2)
 
--- fewer octets are free behind a packet
+-- fewer octets are free after a packet
 due-fewer : (a : Attempted) (due : DuePacket JobState) → enough_free ≤ free_octets a.end → free_octets (after_due due a).end < free_octets a.end
 due-fewer a due enough = push-fewer a.end (packet_text due.packet) (packet-some due.packet) (omega arith)
 
@@ -20,12 +20,12 @@ end_of a = a.end
 abbrev due_of : Attempted → Option (DuePacket JobState)
 due_of a = next_due a.job
 
--- what stands of an attempt, and of each with the packet queued that is due, stands once all is queued
+-- what is true of an attempt, and of each with the packet queued that is due, is true once all is queued
 pub queuing-keeps : (Holds : Attempted → Type 0) → ((a : Attempted) (due : DuePacket JobState) → next_due a.job ≡ Some due → Holds a → Holds (after_due due a)) → (count : ℕ) (a : Attempted)
     → Holds a → Holds (queuing count a)
 queuing-keeps = filling-keeps end_of due_of after_due
 
--- and at the end of the event, where it stands of each that is hung up too
+-- and at the end of the event, if it is true of each that is hung up too
 pub settled-keeps : (Holds : Attempted → Type 0) → ((a : Attempted) (due : DuePacket JobState) → next_due a.job ≡ Some due → Holds a → Holds (after_due due a))
     → ((a : Attempted) → Holds a → Holds (record a { end = after_hang_up a.end })) → (a : Attempted) → Holds a → Holds (settled a)
 settled-keeps Holds each parts a here =
@@ -38,15 +38,15 @@ pub queuing-next : (a : Attempted) (due : DuePacket JobState) → next_due a.job
     → queuing (free_octets (after_due due a).end) (after_due due a) ≡ queuing (free_octets a.end) a
 queuing-next = filling-next end_of due_of after_due due-fewer
 
--- none, where nothing is due
+-- none, if nothing is due
 pub queuing-none : (count : ℕ) (a : Attempted) → next_due a.job ≡ None → queuing count a ≡ a
 queuing-none = filling-none end_of due_of after_due
 
--- nor where fewer octets are free
+-- nor if fewer octets are free
 pub queuing-few : (count : ℕ) (a : Attempted) → free_octets a.end < enough_free → queuing count a ≡ a
 queuing-few = filling-few end_of due_of after_due
 
--- what stands at the end
+-- what is true at the end
 queuing-ends : (count : ℕ) (a : Attempted) → free_octets a.end ≤ count → IsQueued (queuing count a)
 queuing-ends = filling-ends end_of due_of after_due due-fewer IsQueued (λ a none. inl none) (λ a few. inr few)
 

@@ -1,4 +1,4 @@
--- What stands of an attempt stands after each event, and once something became of it nothing more is noted.
+-- What is true of an attempt is true after each event, and once something became of it nothing more is noted.
 use Rattle.std.proofs.Common.{◌≡◌, ℕ, Bool, true, false, List, [], ◌∷◌, refl, ap, sym, ◌∙◌, subst}
 use Rattle.ftl0_client_job.specs.declared.ending.Outcome.TheVariants as outcome
 use Rattle.ftl0_client_job.specs.declared.work.Work.TheVariants as work
@@ -75,7 +75,7 @@ calling-law law me server lists job new goes = record { job = law lists job new 
 pub quiet-law : QuietLaw
 quiet-law w lists a frame told some = by a.job.ending a.down refl refl
   where
-    -- what is noted, by what the link told
+    -- what is noted, by what the link reported
     by-told : (t : Heard) → List NotesCommand
     by-told t = (taking lists (after_told t (with_end a (after_frame w a.end frame)) frame.kind.information) (packets_told t a frame.kind.information)).noted
 

@@ -6,7 +6,7 @@ use Rattle.ftl0_client.proofs.Names.{Option, None, Some, Item, NotesCommand, aft
 after_noting-then : (first second : List NotesCommand) (happened : Happened) → after_noting first (after_noting second happened) ≡ after_noting (first ++ second) happened
 after_noting-then first second happened = ap (λ (noted : List NotesCommand). record happened { noted = noted }) (sym (append_assoc first second happened.noted))
 
--- what packets make behind others
+-- what packets make after others
 abbrev pub taking_from : Lists → Happened → List Item → Happened
 taking_from lists from others = after_noting from.noted (taking (after_all lists from.noted) from.after others)
 
@@ -20,7 +20,7 @@ taking-append lists a (item ∷ items) others =
     ∙ after_noting-then one.noted part.noted (taking (after_all next part.noted) part.after others)
     ∙ ap (λ (l : Lists). after_noting (one.noted ++ part.noted) (taking l part.after others)) (sym (after_all-append one.noted part.noted lists))
 
--- The commands of a packet's row come behind those of the packets before it, whatever packets come behind.
+-- The commands of a packet's row come after those of the packets before it, whatever packets come later.
 pub noted-front : (lists : Lists) (a : Attempted) (before : List Item) (item : Item) (behind : List Item) → (taking lists a before).after.job.ending ≡ None
     → (more : List NotesCommand)
     × ((taking lists a (before ++ item ∷ behind)).noted

@@ -1,4 +1,4 @@
--- The end of an attempt's link is down only where something became of the attempt.
+-- The end of an attempt's link is down only if something became of the attempt.
 use Rattle.std.proofs.Common.{◌≡◌, ◌≢◌, ◌⊎◌, inl, inr, ⊎_elim, ℕ, ◌+◌, ◌==◌, Bool, true, false, ◌&&◌, ◌||◌}
 use Rattle.std.proofs.Common.{List, [], ◌∷◌, refl, ap, sym, ◌∙◌, subst}
 use Rattle.std.specs.Prelude.{if◌then◌else◌}
@@ -7,9 +7,9 @@ use Rattle.ax25_link.specs.declared.state.Why.TheVariants as why
 use Rattle.ftl0_client.proofs.Names.{Option, None, Some, nat_lt, cond_both, FrameValue, Control, I, Rr, Rnr, Rej, Sabm, Disc, Dm, Ua, Frmr, Ui, Heard, Nothing, Opened, Reopened, Bytes, Closed, LinkState, Down, Up, Why, Meaning, applying, bad, good, is_bad, is_good, meaning_of, stale, after_push, LinkEnd, free_octets, high, receive_number, heard_of_tick, Outcome, after_frame, calling_row, ending_row, entering, heard_of, information_row, numbered_row, row_of_state, sending_again, supervisory_row, up_row, with_busy, after_tick, is_down, is_spent, is_up, runs_out, told_of_tick, trying, Window, kind_of_item, texts, Item, fits, after_all, Lists, Ending, Work, Row, job_after, job_row, Attempted, outcome_by, outcome_of, after_hearing, after_ticking, after_told, down_by, hearing, packets_heard, ticking, with_end, is_all_free, is_later, parting_later, queuing, settled, Happened, after_replies, parting, replied, taking, taking_by, taking_one}
 use Rattle.ftl0_client.proofs.attempt.SettlingLemmas.{queuing-keeps}
 
--- ---- a link goes down only where that is told
+-- ---- a link goes down only if that is reported
 
--- the end was down before, or it is told why it is
+-- the end was down before, or it is reported why it is
 abbrev Tells : LinkEnd → Outcome → Type 0
 Tells end o = o.after.state ≡ Down → (end.state ≡ Down) ⊎ ((reason : Why) × (o.heard ≡ Closed reason))
 
@@ -77,16 +77,16 @@ tick-tells end false false spent is = inl is
 
 -- ---- an attempt
 
--- its end is down only where something became of it
+-- its end is down only if something became of it
 abbrev pub DownTold : Attempted → Type 0
 DownTold a = a.end.state ≡ Down → outcome_of a ≢ None
 
--- something became of it where its job has an outcome, or the link went down
+-- something became of it if its job has an outcome, or the link went down
 ending-some : (o : Option Ending) (down : Option Why) (reason : Why) → outcome_by o (down_by o down reason) ≢ None
 ending-some None down reason is = cc is
 ending-some (Some ending) down reason is = cc is
 
--- by what the link told
+-- by what the link reported
 told-told : (told : Heard) (a : Attempted) (end : LinkEnd) (octets : List ℕ) → (end.state ≡ Down → (a.end.state ≡ Down) ⊎ ((reason : Why) × (told ≡ Closed reason))) → DownTold a
     → DownTold (after_told told (with_end a end) octets)
 told-told Nothing a end octets tells was down = ⊎_elim was (λ (h : (reason : Why) × (Nothing ≡ Closed reason)). absurd (let e = h.1 in cc e)) (tells down)
@@ -147,7 +147,7 @@ heard-told w lists a frame was =
     let told : DownTold b = told-told (heard_of w a.end frame) a end frame.kind.information (state-tells w a.end frame a.end.state refl) was in
     settled-told (taking lists b (packets_heard w a frame)).after (taking-told lists b (packets_heard w a frame) told)
 
--- what is told of a tick
+-- what is reported of a tick
 tick-heard : (o : Option Why) (reason : Why) → o ≡ Some reason → heard_of_tick o ≡ Closed reason
 tick-heard o reason is = ap heard_of_tick is
 

@@ -77,7 +77,7 @@ goes-none lists a = record { happens = record { doings = []; does = refl; said =
 abbrev MayGo : Attempted → Type 0
 MayGo a = a.job.ending ≡ None → a.end.state ≡ Up
 
--- an end that is up comes to be hung up, or stays
+-- an end that is up is hung up, or stays
 record Parts (end now : LinkEnd) : Type 0 where
   doings : List Doing
   does : DoesAll end doings now
@@ -164,7 +164,7 @@ from-short at number place =
     cond_both (length (drop place at.file) == 0) _ _ (λ (d : DuePacket Upload). length (packet_text d.packet) ≤ enough_free) (λ none. omega arith)
     (λ some. omega (arith, length-take most_data (drop place at.file)))
 
--- it fits where enough octets are free
+-- it fits if enough octets are free
 due-short : (o : Option Ending) (doing : Work) (due : DuePacket JobState) → due_by o doing ≡ Some due → length (packet_text due.packet) ≤ enough_free
 due-short (Some ending) doing due is = absurd (cc is)
 due-short None (work.Directory at) due is = absurd (cc is)
@@ -254,7 +254,7 @@ goes-all lists a items taken =
 -- ---- events
 
 module _ (lists : Lists) (a : Attempted) (end : LinkEnd) (octets : List ℕ) where
-  -- the attempt by what the link told of a frame, and what becomes of it then
+  -- the attempt by what the link reported of a frame, and what becomes of it then
   abbrev told : Heard → Attempted
   told t = after_told t (with_end a end) octets
 

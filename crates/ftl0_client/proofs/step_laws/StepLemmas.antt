@@ -1,4 +1,4 @@
--- A client's step is by its attempt.
+-- A client's step follows from its attempt.
 use Rattle.std.proofs.Common.{◌≡◌, Bool, true, false, List, [], ◌∷◌, Option, None, Some, refl, sym, ◌∙◌, ap, subst}
 use Rattle.std.specs.Prelude.{if◌then◌else◌}
 use Rattle.ax25_link.specs.Refusals.{is_answered, refusal_frame}

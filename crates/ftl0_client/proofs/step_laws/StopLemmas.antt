@@ -1,4 +1,4 @@
--- What an event begins that stops at a packet is a front of what it has where nothing stops it.
+-- What an event begins that stops at a packet is a prefix of what it has if nothing stops it.
 use Rattle.std.proofs.Common.{List, ap, sym, ◌∙◌, append_assoc}
 use Rattle.ftl0_client.proofs.attempt.TakingLemmas.{noted-front}
 use Rattle.ftl0_client.specs.StepLaws.Stops.{FrontOfEventLaw}

@@ -7,7 +7,7 @@ use Rattle.ax25_link.specs.Acknowledging.{Meaning, good, stale, bad, applying, i
 use Rattle.ax25_link.proofs.Offered.{acknowledging-keeps}
 use Rattle.ftl0_client.proofs.step_laws.Names.{cond_both, FrameValue, Bytes, LinkState, Calling, Up, Ending, Down, LinkEnd, receive_number, Outcome, after_frame, calling_row, ending_row, heard_of, information_row, numbered_row, row_of_state, sending_again, supervisory_row, up_row, with_busy, Window}
 
--- up, where information that is next was told
+-- up, if information that is next was reported
 abbrev BytesUp : Outcome → Type 0
 BytesUp o = o.heard ≡ Bytes → o.after.state ≡ Up
 

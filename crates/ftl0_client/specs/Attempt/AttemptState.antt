@@ -84,7 +84,7 @@ HearsBy g w event a items before now (Ok done) =
 HearsBy g w event a items before now (Err why) = StopsAmong g a items before now why
 
 -- This frame was heard by an attempt that stands for this one. Since it came each image stands for the notes after the
--- first of the commands that the event has where nothing stops it, for some number of them.
+-- first of the commands that the event has if nothing stops it, for some number of them.
 pub record Hears {D : Type 0} (g : Ghosts D) (w : Window) (a : Attempted) (frame : FrameValue)
     (before now : WithNotes AttemptState D) (result : Result ⊤ Halt) : Type 0 where
   pub by :
@@ -125,12 +125,12 @@ pub record Working (D : Type 0) : Type 0 where
 abbrev pub working : {D : Type 0} → Kept → JobState → NotesState → D → Working D
 working link job notes disk = record { link = link; job = job; notes = notes; disk = disk }
 
--- What an event leaves of them: what the next event needs, where nothing stopped it.
+-- What an event leaves of them: what the next event needs, if nothing stopped it.
 pub record LeavesFit {D T : Type 0} (g : Ghosts D) (before now : Working D) (result : Result T Halt) : Type 0 where
   pub may : OnOk result (MayTake g now.notes now.disk now.job)
   pub stands_on : StandsOn g now.notes now.disk
   pub stations : SameStations before.link now.link
 
--- what is said of the disk's counts
+-- what is claimed of the disk's counts
 abbrev pub PutsBy : {D : Type 0} → Ghosts D → D → D → Result ⊤ Halt → Type 0
 PutsBy g disk disk_now result = Puts g (IsErrOf result stop.Disk) disk disk_now

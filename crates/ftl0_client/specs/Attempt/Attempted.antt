@@ -11,7 +11,7 @@ use Rattle.ftl0_client_job.specs.declared.ending.Outcome.TheVariants.{LinkDown}
 use Rattle.ftl0_client_job.specs.Table.{JobState}
 
 -- the client's end of the link; the octets that were accepted and of which no packet was taken yet; the job; and why
--- the link went down, where it did before the job had an outcome
+-- the link went down, if it did before the job had an outcome
 pub record Attempted : Type 0 where
   pub end : LinkEnd
   pub rest : List ℕ

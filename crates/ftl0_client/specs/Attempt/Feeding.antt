@@ -32,7 +32,7 @@ abbrev pub Replies : ℕ → List ℕ → JobState → JobState → Window → L
 Replies kind text job job_now w end link_now =
     StandsFor w link_now (replied end text) × (job_now ≡ after_replies job kind (fits end text))
 
--- the same, and the link is hung up where the outcome asks for it
+-- the same, and the link is hung up if the outcome asks for it
 abbrev pub RepliesAndParts : ℕ → List ℕ → JobState → JobState → Window → LinkEnd → Kept → Type 0
 RepliesAndParts kind text job job_now w end link_now =
     StandsFor w link_now (parting (after_replies job kind (fits end text)).ending (replied end text))
@@ -86,7 +86,7 @@ pub record QueuesPacket (old new : AttemptState) : Type 0 where
   pub job : new.job ≡ due.state
   pub fewer : room_of new.link.queue < room_of old.link.queue
 
--- the same; or nothing is due, or fewer octets are free, and it stands as it stood
+-- the same; or nothing is due, or fewer octets are free, and it is as it was
 abbrev pub QueuesNext : AttemptState → AttemptState → Bool → Type 0
 QueuesNext old new true = QueuesPacket old new
 QueuesNext old new false =

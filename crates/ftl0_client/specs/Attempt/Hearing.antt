@@ -33,8 +33,8 @@ closing a why = record a { down = down_by a.job.ending a.down why }
 abbrev pub accepting : Attempted → List ℕ → Attempted
 accepting a octets = record a { rest = rest_of (a.rest ++ octets) }
 
--- The attempt by what the link told of a frame with this information, before packets are taken. An end that calls tells
--- of no further SABM.
+-- The attempt by what the link reported of a frame with this information, before packets are taken. An end that calls
+-- reports no further SABM.
 abbrev pub after_told : Heard → Attempted → List ℕ → Attempted
 after_told Nothing a octets = a
 after_told Opened a octets = a
@@ -42,7 +42,7 @@ after_told Reopened a octets = a
 after_told Bytes a octets = accepting a octets
 after_told (Closed why) a octets = closing a why
 
--- the packets that are to be taken then: those that the information finishes, where it is next in the stream
+-- the packets that are to be taken then: those that the information finishes, if it is next in the stream
 abbrev pub packets_told : Heard → Attempted → List ℕ → List Item
 packets_told Nothing a octets = []
 packets_told Opened a octets = []
@@ -66,7 +66,7 @@ settling happened = record happened { after = settled happened.after }
 abbrev pub hearing : Window → Lists → Attempted → FrameValue → Happened
 hearing w lists a frame = settling (taking lists (after_hearing w a frame) (packets_heard w a frame))
 
--- What a tick makes of it: where the server doesn't answer the link is down.
+-- What a tick makes of it: if the server doesn't answer the link is down.
 abbrev pub after_ticking : Attempted → Attempted
 after_ticking a = after_told (heard_of_tick (told_of_tick a.end)) (with_end a (after_tick a.end)) []
 

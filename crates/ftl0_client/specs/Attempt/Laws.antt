@@ -43,7 +43,7 @@ StaysLaw =
     → ((hearing w lists a frame).after.job ≡ a.job) × ((hearing w lists a frame).noted ≡ [])
     × ((ticking a).job ≡ a.job)
 
--- where an attempt has it that its link went down before an outcome, its end of the link is down
+-- if an attempt has it that its link went down before an outcome, its end of the link is down
 abbrev pub IsToldDown : Attempted → Type 0
 IsToldDown a = (why : Why) → a.down ≡ Some why → a.end.state ≡ Down
 
@@ -59,7 +59,7 @@ OutcomeLaw =
     × (IsToldDown (ticking a) × StaysReached a (ticking a))
 
 -- These commands of an event note last that the task was acknowledged. In each image that stands for the notes after at
--- least all of them, whatever commands come behind, it was, with this number.
+-- least all of them, whatever commands come later, it was, with this number.
 pub record AcknowledgesIn (lists : Lists) (task number : ℕ) (noted : List NotesCommand) : Type 0 where
   pub before : List NotesCommand
   pub last : noted ≡ before ++ acked task ∷ []
@@ -67,7 +67,7 @@ pub record AcknowledgesIn (lists : Lists) (task number : ℕ) (noted : List Note
       (others : List NotesCommand) (least most : ℕ) (image : List ℕ) → AreAllowed lists (noted ++ others)
       → length noted ≤ least → MakesBetween least most lists (noted ++ others) image → IsAckedIn task number image
 
--- The frame by which an upload of a task's file comes to the outcome that it was acknowledged has that noted.
+-- The frame by which an upload of a task's file reaches the outcome that it was acknowledged has that noted.
 abbrev pub AckedLaw : Type 0
 AckedLaw =
     (w : Window) (lists : Lists) (a : Attempted) (frame : FrameValue) (at : Upload) (number : ℕ)
@@ -80,7 +80,7 @@ abbrev pub IsFetchedBy : ℕ → Lists → Download → List NotesCommand → Ty
 IsFetchedBy number lists at noted =
     (number ≡ at.number) × (fault_code (got_of (after_all lists noted) at.server at.number) ≡ None)
 
--- The frame by which a download comes to the outcome that its file was fetched leaves the file noted, without fault.
+-- The frame by which a download reaches the outcome that its file was fetched leaves the file noted, without fault.
 abbrev pub FetchedLaw : Type 0
 FetchedLaw =
     (w : Window) (lists : Lists) (a : Attempted) (frame : FrameValue) (at : Download) (number : ℕ)
@@ -94,21 +94,20 @@ QuietLaw =
     (w : Window) (lists : Lists) (a : Attempted) (frame : FrameValue) → IsToldDown a → outcome_of a ≢ None
     → (hearing w lists a frame).noted ≡ []
 
--- What stands of an attempt of which this work was asked, over these notes, after each event: what stands of its job;
--- and its end of the link is down where it went down before an outcome, and only where something became of the
--- attempt.
+-- What is true of an attempt of which this work was asked, over these notes, after each event: what is true of its job;
+-- and its end of the link is down if it went down before an outcome, and only if something became of the attempt.
 pub record AttemptStands (asked : Work) (lists : Lists) (a : Attempted) : Type 0 where
   pub job : JobStands asked lists a.job
   pub told_down : IsToldDown a
   pub down_told : a.end.state ≡ Down → outcome_of a ≢ None
 
--- It stands of an attempt that begins with a job that was just made, over notes that go with it.
+-- It is true of an attempt that begins with a job that was just made, over notes that go with it.
 abbrev pub CallingLaw : Type 0
 CallingLaw =
     (me server : CallSign) (lists : Lists) (job : JobState) → IsNew job → NotesGoWith lists job
     → AttemptStands job.work lists (calling me server job)
 
--- Where it stands before a frame or a tick, it stands after it.
+-- If it is true before a frame or a tick, it is true after it.
 abbrev pub StandsLaw : Type 0
 StandsLaw =
     (asked : Work) (w : Window) (lists : Lists) (a : Attempted) (frame : FrameValue) → AttemptStands asked lists a

@@ -1,5 +1,5 @@
--- What is done at the end of each event, while the link is up: what is due is queued, and then the link is hung up
--- where that was to be done later (FTL0 1990, uploading; AX.25 2.0, 2.4.3.3).
+-- What is done at the end of each event, while the link is up: what is due is queued, and then the link is hung up if
+-- that was to be done later (FTL0 1990, uploading; AX.25 2.0, 2.4.3.3).
 use Rattle.std.specs.Prelude.{ℕ, ◌==◌, Bool, false, ◌&&◌, if◌then◌else◌, Option, None, Some}
 use Rattle.ax25_link.specs.Calls.{after_hang_up, after_push}
 use Rattle.ax25_link.specs.Ends.{LinkEnd, free_octets, most_held}
@@ -15,8 +15,8 @@ use Rattle.ftl0_client.specs.Attempt.Attempted.{Attempted}
 abbrev pub after_due : DuePacket JobState → Attempted → Attempted
 after_due due a = record a { end = after_push a.end (packet_text due.packet); job = due.state }
 
--- Packets that are due are queued, one after another, while enough octets are free: so many of them at most. After the
--- outcome none is due.
+-- Packets that are due are queued, one after another, while enough octets are free: this number of them at most. After
+-- the outcome none is due.
 abbrev pub queuing : ℕ → Attempted → Attempted
 queuing more a = filling (λ at. at.end) (λ at. next_due at.job) after_due more a
 
@@ -29,7 +29,7 @@ is_later (Some ending) = ending.later
 abbrev pub is_all_free : LinkEnd → Bool
 is_all_free end = free_octets end == most_held
 
--- the link is hung up once all is acknowledged, where that was to be done later
+-- the link is hung up once all is acknowledged, if that was to be done later
 abbrev pub parting_later : Attempted → Attempted
 parting_later a =
     if is_later a.job.ending && is_all_free a.end then record a { end = after_hang_up a.end } else a

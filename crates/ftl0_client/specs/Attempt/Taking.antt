@@ -15,16 +15,16 @@ use Rattle.ftl0_client_job.specs.Row.{Row, strange_ending}
 use Rattle.ftl0_client_job.specs.Table.{JobState, job_after, job_row}
 use Rattle.ftl0_client.specs.Attempt.Attempted.{Attempted}
 
--- the end after replies of this text: they are queued where they fit, and else nothing of them is
+-- the end after replies of this text: they are queued if they fit, and else nothing of them is
 abbrev pub replied : LinkEnd → List ℕ → LinkEnd
 replied end text = if fits end text then after_push end text else end
 
--- the job after replies to a packet of this type, which fit or don't: where they don't, the packet is strange
+-- the job after replies to a packet of this type, which fit or don't: if they don't, the packet is strange
 abbrev pub after_replies : JobState → ℕ → Bool → JobState
 after_replies job kind true = job
 after_replies job kind false = record job { ending = Some (strange_ending kind) }
 
--- the end once the job stands so: an outcome hangs it up at once, but one after which that is to be done later
+-- the end once the job is so: an outcome hangs it up at once, except one after which that is to be done later
 abbrev pub parting : Option Ending → LinkEnd → LinkEnd
 parting None end = end
 parting (Some ending) end = if ending.later then end else after_hang_up end
@@ -42,11 +42,11 @@ quietly a = record { after = a; noted = [] }
 abbrev pub after_noting : List NotesCommand → Happened → Happened
 after_noting commands happened = record happened { noted = commands ++ happened.noted }
 
--- the attempt with this job, after replies of this text, and hung up where the job's outcome asks for it at once
+-- the attempt with this job, after replies of this text, and hung up if the job's outcome asks for it at once
 abbrev pub with_replies : Attempted → JobState → List ℕ → Attempted
 with_replies a job text = record a { end = parting job.ending (replied a.end text); job = job }
 
--- what a packet of this type with this row makes: its commands, its replies, and how the job stands then
+-- what a packet of this type with this row makes: its commands, its replies, and the job after it
 abbrev pub answering : Attempted → ℕ → Row Work → Happened
 answering a kind row =
     record {

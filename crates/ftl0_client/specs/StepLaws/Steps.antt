@@ -15,9 +15,9 @@ use Rattle.ftl0_client.specs.Attempt.Taking.{Happened, quietly}
 use Rattle.ftl0_client.specs.Client.{Client, asks, attempt_for, heard_by, hears, ticks, with_attempt}
 use Rattle.ftl0_client.specs.ClientStep.{ClientStep}
 
--- This comes to the end of the attempt, and is a step of the link: the end had nothing to send, and after what the job
--- does then it is the one that the event makes. The frames are those that it sends until nothing is to be sent. The
--- event's commands are noted, and all else of the client is as it was.
+-- This arrives at the attempt's end of the link, and is a step of the link: the end had nothing to send, and after what
+-- the job does then it is the one that the event makes. The frames are those that it sends until nothing is to be sent.
+-- The event's commands are noted, and all else of the client is as it was.
 pub record StepsBy (old : Client) (a : Attempted) (came : Coming) (happened : Happened) (noted : List NotesCommand)
     (frames : List FrameValue) (new : Client) : Type 0 where
   pub noted_is : noted ≡ happened.noted
@@ -43,7 +43,7 @@ abbrev pub called_for : Client → JobState → Attempted
 called_for client job =
     with_end (calling client.me client.server job) (record (calling_end client.me client.server) { reply = None })
 
--- what is sent to a station with which there is no link: DM, where the frame is answered
+-- what is sent to a station with which there is no link: DM, if the frame is answered
 abbrev pub answers_to : Client → FrameValue → List FrameValue
 answers_to client frame =
     if is_answered frame then refusal_frame client.me (record { to = frame.src; poll = frame.poll }) ∷ [] else []

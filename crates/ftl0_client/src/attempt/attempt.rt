@@ -49,7 +49,7 @@ const ALL_FREE: usize = 4096;
 pub struct Attempt {
     link: PacketLink,
     job: Job,
-    /// Why the link went down, where it did before the job had an outcome.
+    /// Why the link went down, if it did before the job had an outcome.
     down: Option<Why>,
 }
 
@@ -65,7 +65,7 @@ impl Model for Attempt {
 
 impl Attempt {
     /// Calls the server for this job: SABM with P = 1 is pending (AX.25 2.0, 2.4.3.1). At most k I frames are
-    /// outstanding at a time; `good_k(k)` holds. Takes memory, and fails only where there is none.
+    /// outstanding at a time; `good_k(k)` is true. Takes memory, and fails only if there is none.
     pub fn call(
         alloc: Global,
         me: Call,
@@ -89,10 +89,10 @@ impl Attempt {
     /// Hears a frame of the server, while nothing is pending (AX.25 2.0, 2.4; FTL0 1990): the frame's row of the link's
     /// table, and for information that is next in the stream the packets' rows of the client's table. What they note is
     /// on the disk before any frame of the event is given out. A packet whose reply doesn't fit the link is strange,
-    /// and nothing of the reply is queued. An outcome hangs the link up at once, but where its row says later; a packet
+    /// and nothing of the reply is queued. An outcome hangs the link up at once, unless its row says later; a packet
     /// after it changes nothing. At the end DATA and DATA_END that are due are queued while at least 1,280 octets are
-    /// free, and a link that is to be hung up later is, once all that was queued is acknowledged. Takes memory, but for
-    /// an upload.
+    /// free, and a link that is to be hung up later is, once all that was queued is acknowledged. Takes memory, except
+    /// for an upload.
     ///
     /// After a stop no frame of the event is given out, and only `outcome`, `ending` and `listing` are called. After
     /// `Disk` the commands before the one in which the disk failed are noted, and that one may be. After `OutOfMemory`
@@ -119,7 +119,7 @@ impl Attempt {
         Ok(())
     }
 
-    /// Counts a tick, while nothing is pending (AX.25 2.0, 2.4.7): where the server doesn't answer any more the link is
+    /// Counts a tick, while nothing is pending (AX.25 2.0, 2.4.7): if the server doesn't answer any more the link is
     /// down. The end of the event is that of `hear`. Takes no memory.
     pub fn tick(&mut self)
         requires { is_pending self.old.link ≡ false }
@@ -132,7 +132,7 @@ impl Attempt {
     }
 
     /// Replaces `out` by the octets of the next pending frame, which is then sent. It is false, and changes nothing,
-    /// exactly where nothing is pending. Takes no memory.
+    /// exactly if nothing is pending. Takes no memory.
     pub fn next_out(&mut self, out: &mut ArrayVec<u8, 400>) -> bool
         ensures gives { GivesFrame {S = Carried} (λ it. it.link) self.old self.new
             out.old.items out.new.items result }
@@ -172,7 +172,7 @@ impl Attempt {
         self.job.ending()
     }
 
-    /// The octets of the list that came: short headers of 73 octets, one after another, where the outcome is `Listed`;
+    /// The octets of the list that came: short headers of 73 octets, one after another, if the outcome is `Listed`;
     /// none of any other job. Takes no memory.
     pub fn listing(&self) -> &[u8]
         ensures { result.now ≡ listing_of self.now.job.work }
@@ -195,7 +195,7 @@ impl Attempt {
         self.link.stands_law();
     }
 
-    /// Hears a frame, but for what is done at the end of the event.
+    /// Hears a frame, without what is done at the end of the event.
     fn take_frame<D: Disk>(
         &mut self,
         disk: &mut D,
@@ -228,7 +228,7 @@ impl Attempt {
         }
     }
 
-    /// Counts a tick, but for what is done at the end of the event.
+    /// Counts a tick, without what is done at the end of the event.
     fn count_tick(&mut self)
         requires { is_pending self.old.link ≡ false }
         ensures ticks { Becomes self.old self.new (λ w a. after_ticking a) }
@@ -249,8 +249,8 @@ impl Attempt {
         }
     }
 
-    /// The end of an event: while the link is up what is due is queued, and the link is hung up where that was to be
-    /// done later.
+    /// The end of an event: while the link is up what is due is queued, and the link is hung up if that was to be done
+    /// later.
     fn settle(&mut self)
         ensures settles { Becomes self.old self.new (λ w a. settled a) }
         ensures keeps { KeepsFit self.old self.new }
@@ -271,8 +271,8 @@ impl Attempt {
         while self.queue_next() {}
     }
 
-    /// Queues what is due next, where enough octets are free. It answers false, and nothing changed, where nothing is
-    /// due, or fewer are free.
+    /// Queues what is due next, if enough octets are free. It answers false, and nothing changed, if nothing is due, or
+    /// fewer are free.
     fn queue_next(&mut self) -> bool
         requires { self.old.link.state ≡ LinkState.Up }
         ensures next { QueuesNext self.old self.new result }
@@ -289,7 +289,7 @@ impl Attempt {
         true
     }
 
-    /// Hangs the link up where that was to be done later, and all that was queued is acknowledged.
+    /// Hangs the link up if that was to be done later, and all that was queued is acknowledged.
     fn hang_up_later(&mut self)
         requires { self.old.link.state ≡ LinkState.Up }
         ensures parts { Becomes self.old self.new (λ w a. parting_later a) }
@@ -323,7 +323,7 @@ fn take_packets<D: Disk>(
     Ok(())
 }
 
-/// Takes the packet that is whole, and queues the replies to it. After the outcome it is passed over.
+/// Takes the packet that is whole, and queues the replies to it. After the outcome it is ignored.
 fn answer<D: Disk>(
     link: &mut PacketLink,
     job: &mut Job,
@@ -350,8 +350,8 @@ fn answer<D: Disk>(
     Ok(())
 }
 
-/// Queues replies to a packet of this type, or loses them where the link has no room for them; and hangs the link up
-/// where the job's outcome asks for that at once.
+/// Queues replies to a packet of this type, or loses them if the link has no room for them; and hangs the link up if
+/// the job's outcome asks for that at once.
 fn reply(link: &mut PacketLink, job: &mut Job, text: &[u8], kind: u8)
     requires { link.old.link.state ≡ LinkState.Up }
     ensures replies { (w : Window) (end : LinkEnd) → StandsFor w link.old.link end →
@@ -364,8 +364,8 @@ fn reply(link: &mut PacketLink, job: &mut Job, text: &[u8], kind: u8)
     hang_up_at_once(link, job.ending());
 }
 
-/// Queues replies to a packet of this type. Where the link has no room for them nothing of them is queued, and the
-/// packet is strange.
+/// Queues replies to a packet of this type. If the link has no room for them nothing of them is queued, and the packet
+/// is strange.
 fn queue_replies(link: &mut PacketLink, job: &mut Job, text: &[u8], kind: u8)
     requires { link.old.link.state ≡ LinkState.Up }
     ensures replies { (w : Window) (end : LinkEnd) → StandsFor w link.old.link end →
@@ -381,7 +381,7 @@ fn queue_replies(link: &mut PacketLink, job: &mut Job, text: &[u8], kind: u8)
     }
 }
 
-/// Hangs the link up where the job ended so that it is to be done at once.
+/// Hangs the link up if the job ended so that it is to be done at once.
 fn hang_up_at_once(link: &mut PacketLink, ending: Option<Ending>)
     requires { link.old.link.state ≡ LinkState.Up }
     ensures parts { Steps link.old.link link.new.link (λ w end. parting ending end) }

@@ -23,7 +23,7 @@ pub fn quiet_law()
     ensures { QuietLaw }
 {}
 
-/// What stands of an attempt stands after each frame and each tick: it is of the work that was asked, and its outcome
+/// What is true of an attempt is true after each frame and each tick: it is of the work that was asked, and its outcome
 /// keeps what it promises.
 pub fn stands_law()
     ensures calling { CallingLaw }
@@ -32,13 +32,13 @@ pub fn stands_law()
     ftl0_client_job::laws::promises_law();
 }
 
-/// An upload comes to the outcome that its file was acknowledged only by a frame of which that is noted, in every image
+/// An upload reaches the outcome that its file was acknowledged only by a frame of which that is noted, in every image
 /// from the end of the event on.
 pub fn acked_law()
     ensures { AckedLaw }
 {}
 
-/// A download comes to the outcome that its file was fetched only by a frame after which the file's octets are noted,
+/// A download reaches the outcome that its file was fetched only by a frame after which the file's octets are noted,
 /// and have no fault.
 pub fn fetched_law()
     ensures { FetchedLaw }

@@ -6,7 +6,7 @@ use disk_model::{Disk, DiskFault};
 use row_words::{OverDisk, hex_text, kind_and_rest, read_octets, two_parts};
 use std::alloc::Global;
 
-/// The calls of a row, parted by `;`.
+/// The calls of a row, separated by `;`.
 #[derive(Drop)]
 pub struct Calls<'a> {
     /// Their text.

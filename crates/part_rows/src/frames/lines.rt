@@ -42,7 +42,7 @@ fn put_lines(parts: &mut Parts, text: &str) -> Result<()> {
     put_run(parts, count, last)
 }
 
-/// Puts a run of so many alike lines, if there is one.
+/// Puts a run of this number of alike lines, if there is one.
 fn put_run(parts: &mut Parts, count: u32, line: &str) -> Result<()> {
     if count > 0 {
         parts.show(format_args!("{count} {line}"))?;

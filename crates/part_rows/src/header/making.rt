@@ -39,7 +39,7 @@ fn made_text(alloc: Global, kind: &str, spec: &MakeSpec<'_>, body: &str) -> Resu
     }
 }
 
-/// The names and texts of a row, in the order in which they stand.
+/// The names and texts of a row, in the order in which they come.
 fn read_texts(alloc: Global, words: [&str; 5]) -> Result<Texts> {
     let [name, ext, source, destination, title] = words;
     Ok(Texts {

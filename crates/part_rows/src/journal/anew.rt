@@ -1,11 +1,11 @@
-//! Records that are put in place of all others.
+//! Records that are put instead of all others.
 
 ghost use Rattle.std.specs.Prelude.{[], ◌∷◌, drop};
 ghost use Rattle.file_journal.specs.Records.{record_of};
 
 use file_journal::{RecordContent, Records};
 
-/// Two records, of which so many are done: of the kind 5 with the content 02ff, and of the kind 6 without content.
+/// Two records, and how many of them are done: of the kind 5 with the content 02ff, and of the kind 6 without content.
 #[derive(Drop)]
 pub struct Anew {
     /// How many.

@@ -1,4 +1,4 @@
-//! A disk of a special kind: what it keeps through its calls is told by `lasts`.
+//! A disk of a special kind: what it keeps through its calls is said by `lasts`.
 
 use disk_model::{Disk, DiskFault};
 use px_base::FileBytes;

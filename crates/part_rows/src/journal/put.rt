@@ -1,5 +1,5 @@
-//! A journal that is read to its end, and what is put there: a record, and before it octets in a block, where there
-//! are blocks, and two records in place of all, where there is no room for it.
+//! A journal that is read to its end, and what is put there: a record, and before it octets in a block, if there are
+//! blocks, and two records instead of all, if there is no room for it.
 
 ghost use Rattle.std.specs.Prelude.{◌≡◌, ◌≤◌, false, true, None, IfOk, OnOk};
 ghost use Rattle.file_journal.specs.Position.{HasRoom, StandsOn};
@@ -14,7 +14,7 @@ use file_journal::{Journal, JournalFault, Layout, RecordContent, RecoverFault};
 /// The first octets of a store.
 const MAGIC: [u8; 8] = *b"PXSTORE0";
 
-/// The block number of a new store: 8, or 1 where there are blocks, whose octets are printed.
+/// The block number of a new store: 8, or 1 if there are blocks, whose octets are printed.
 fn blocks_of(layout: Layout) -> u32
     ensures { (1 ≤ result) × (result ≤ 65536) }
 {
@@ -34,13 +34,13 @@ pub enum Ended {
     Refused(RecoverFault),
     /// The octets or the record weren't put, and then neither was a further record.
     Failed(JournalFault, Result<(), JournalFault>),
-    /// The octets stand in the block, and weren't read there.
+    /// The octets are in the block, and weren't read there.
     Unread,
-    /// The record stands, and there is room for so many octets behind it.
+    /// The record is in the journal, and there is room for this number of octets after it.
     Done(u64),
 }
 
-/// Recovers the journal and reads it to its end, or up to its damage, and puts what it sees behind `seen`.
+/// Recovers the journal and reads it to its end, or up to its damage, and appends what it sees to `seen`.
 fn read_to_end<D: Disk>(
     disk: &mut D,
     layout: Layout,
@@ -61,8 +61,8 @@ fn read_to_end<D: Disk>(
     Ok(journal)
 }
 
-/// Makes a store of this layout on the disk, or recovers it, and puts a record, and before it octets in block 0, where
-/// there are blocks, and other records in place of all, where there is no room for it.
+/// Makes a store of this layout on the disk, or recovers it, and puts a record, and before it octets in block 0, if
+/// there are blocks, and other records instead of all, if there is no room for it.
 fn put_one<D: Disk>(disk: &mut D, layout: Layout, seen: &mut Seen) -> Ended
     ensures { D.lasts disk.old disk.new }
 {
@@ -76,7 +76,7 @@ fn put_one<D: Disk>(disk: &mut D, layout: Layout, seen: &mut Seen) -> Ended
     put_record(disk, &mut journal)
 }
 
-/// Puts what is put before a record, for which there is room then; how that ended, where it failed.
+/// Puts what is put before a record, for which there is room then; how that ended, if it failed.
 fn put_before<D: Disk>(
     disk: &mut D,
     journal: &mut Journal,
@@ -99,7 +99,7 @@ fn put_before<D: Disk>(
     }
 }
 
-/// Puts octets in block 0, and makes room for a record; how that ended, where it failed.
+/// Puts octets in block 0, and makes room for a record; how that ended, if it failed.
 fn put_in_half<D: Disk>(disk: &mut D, journal: &mut Journal) -> Option<Ended>
     requires stands_on { StandsOn D.Disk journal.old disk.old }
     requires ended { journal.old.ended ≡ true }
@@ -116,7 +116,7 @@ fn put_in_half<D: Disk>(disk: &mut D, journal: &mut Journal) -> Option<Ended>
     Some(Ended::Failed(fault, journal.write_block(disk, 0, &[])))
 }
 
-/// Puts octets in block 0, and then two records in place of all, where there is no room for a record of 8 octets.
+/// Puts octets in block 0, and then two records instead of all, if there is no room for a record of 8 octets.
 fn make_room<D: Disk>(disk: &mut D, journal: &mut Journal) -> Result<(), JournalFault>
     requires stands_on { StandsOn D.Disk journal.old disk.old }
     requires ended { journal.old.ended ≡ true }
@@ -148,7 +148,7 @@ fn put_record<D: Disk>(disk: &mut D, journal: &mut Journal) -> Ended
     }
 }
 
-/// Puts octets in block 0, and seven octets of it from place 1 on behind `seen`; how that ended, where it failed.
+/// Puts octets in block 0, and appends seven octets of it from place 1 on to `seen`; how that ended, if it failed.
 fn put_in_block<D: Disk>(disk: &mut D, journal: &mut Journal, seen: &mut Seen) -> Option<Ended>
     requires stands_on { StandsOn D.Disk journal.old disk.old }
     requires ended { journal.old.ended ≡ true }

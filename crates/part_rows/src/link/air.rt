@@ -158,7 +158,7 @@ impl Air {
         self.caller.taken == self.called.pushed && self.called.taken == self.caller.pushed
     }
 
-    /// The next frame of each station is delivered; where neither has one, both get a tick.
+    /// The next frame of each station is delivered; if neither has one, both get a tick.
     fn carry_all(&mut self) -> Result<()> {
         let first = self.caller.next_place();
         if let Some(place) = first {
@@ -176,7 +176,7 @@ impl Air {
         Ok(())
     }
 
-    /// What the row prints after so many steps.
+    /// What the row prints after this number of steps.
     fn shown(&self, alloc: Global, step: u32) -> Result<String> {
         if let Some(found) = self.found() {
             return text_of(alloc, format_args!("step {step}: {found:?}"));
@@ -187,8 +187,8 @@ impl Air {
     }
 }
 
-/// Delivers to a station the frame that is so far back among those that the other sent, or the next one, which is lost
-/// where `how` is 2.
+/// Delivers to a station the frame that is this far back among those that the other sent, or the next one, which is
+/// lost if `how` is 2.
 fn carry_between(
     from: &mut Side,
     to: &mut Side,

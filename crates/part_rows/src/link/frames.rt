@@ -65,8 +65,8 @@ pub fn octets_of(alloc: Global, ssid: u8, text: &str) -> Result<Vec<u8>> {
     Ok(octets)
 }
 
-/// How a row shows a frame to the peer with this SSID: as it would have it, or as all octets after `?` where the
-/// addresses are others.
+/// How a row shows a frame to the peer with this SSID: as it would have it, or as all octets after `?` if the addresses
+/// are others.
 pub fn shown(alloc: Global, ssid: u8, octets: &[u8]) -> Result<String, AllocError> {
     let (mut command, mut response) = (COMMAND_TO_PEER, RESPONSE_TO_PEER);
     command[6] |= ssid << 1;

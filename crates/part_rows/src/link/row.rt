@@ -122,7 +122,7 @@ impl OneLink {
         Ok(())
     }
 
-    /// Takes a frame, and shows what the link tells.
+    /// Takes a frame, and shows what the link reports.
     fn play_frame(&mut self, text: &str) -> Result<()> {
         let octets = octets_of(self.alloc, self.ssid, text)?;
         let heard = take(&mut self.link, octets.as_slice())?;
@@ -141,7 +141,7 @@ impl OneLink {
         Ok(())
     }
 
-    /// Pushes so many octets of the stream, and shows how many were taken.
+    /// Pushes this number of octets of the stream, and shows how many were taken.
     fn push(&mut self, count: usize) -> Result<()> {
         ensure!(self.link.state() == LinkState::Up, "a push while not up");
         let octets = stream(self.alloc, self.pushed, count)?;
@@ -150,7 +150,7 @@ impl OneLink {
         self.put(pushed)
     }
 
-    /// Lets so many ticks come. What is pending after the last one stays where the event is held.
+    /// Lets this number of ticks come. What is pending after the last one stays if the event is held.
     fn play_ticks(&mut self, count: u32, is_held: bool) -> Result<()> {
         for number in 1..=count {
             self.play_tick(number, is_held && number == count)?;
@@ -158,7 +158,7 @@ impl OneLink {
         Ok(())
     }
 
-    /// Lets the tick of this number come, and shows it with what it told and made pending.
+    /// Lets the tick of this number come, and shows it with what it reported and made pending.
     fn play_tick(&mut self, number: u32, is_held: bool) -> Result<()> {
         ensure!(!self.link.pending(), "a tick while frames are pending");
         let told = self.link.tick();
@@ -220,7 +220,7 @@ impl OneLink {
     }
 }
 
-/// So many octets of a row's stream from a place on: the octet at a place is the place modulo 251.
+/// This number of octets of a row's stream from a place on: the octet at a place is the place modulo 251.
 fn stream(alloc: Global, place: usize, count: usize) -> Result<Vec<u8>> {
     let mut octets = Vec::new(alloc);
     for i in 0..count {

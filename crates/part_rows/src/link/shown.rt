@@ -30,7 +30,7 @@ impl Shown {
         Ok(())
     }
 
-    /// Ends the part under way; `-` stands for no words.
+    /// Ends the part under way; `-` means no words.
     pub fn end_part(&mut self) -> Result<()> {
         self.text
             .push_str(if self.is_empty { "-; " } else { "; " })?;

@@ -7,7 +7,7 @@ use ax25_frames::{Kind, read_frame};
 use ax25_link::{Heard, Link, LinkState, Why};
 use std::alloc::{AllocError, Global};
 
-/// Where the control octet of a frame without repeaters stands.
+/// The place of the control octet of a frame without repeaters.
 const CONTROL: usize = 14;
 
 /// A frame that a station sent.
@@ -17,7 +17,7 @@ struct Sent {
     is_delivered: bool,
 }
 
-/// What can't be where the air keeps its premises.
+/// What can't be if the air keeps its premises.
 #[derive(Clone, Copy, Debug)]
 pub enum Found {
     /// The link is down.
@@ -104,7 +104,7 @@ impl Side {
         self.hand_out()
     }
 
-    /// Pushes so many octets of its stream, as far as there is room.
+    /// Pushes this number of octets of its stream, as far as there is room.
     pub fn push(&mut self, count: usize) -> Result<()> {
         if self.link.state() != LinkState::Up {
             return Ok(());
@@ -118,7 +118,7 @@ impl Side {
         self.hand_out()
     }
 
-    /// The place of the frame that so many were sent after.
+    /// The place of the frame after which this number of frames were sent.
     pub fn place_before_end(&self, later: usize) -> Option<usize> {
         self.sent.len().checked_sub(1)?.checked_sub(later)
     }
@@ -134,13 +134,13 @@ impl Side {
         }
     }
 
-    /// All that was sent so far is lost where it wasn't on the air yet.
+    /// All that was sent so far is lost if it wasn't on the air yet.
     pub fn lose_all(&mut self) {
         self.next = self.sent.len();
     }
 
     /// Whether a frame may be delivered: SABM was delivered once; an I or S frame until a later one has been, or while
-    /// at most so many later frames have been sent.
+    /// at most this number of later frames have been sent.
     fn may_deliver(&self, place: usize, most_later: usize) -> bool {
         let Some(sent) = self.sent.get(place) else {
             return false;

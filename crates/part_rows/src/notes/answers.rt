@@ -36,7 +36,7 @@ pub fn shown_begun(alloc: Global, answer: Result<Begun, NotesRefusal>) -> Result
     }
 }
 
-/// How a task stands, if there is one.
+/// The state of a task, if there is one.
 pub fn shown_noted(alloc: Global, noted: Option<Noted>) -> Result<String> {
     let Some(noted) = noted else {
         return text_of(alloc, "None");

@@ -25,7 +25,7 @@ fn play_whole(alloc: Global, row: &str) -> Result<String> {
     play_calls(alloc, &mut disk_of(alloc, octets)?, calls)
 }
 
-/// Makes calls on the notes of a disk, and shows the disk's octets behind their answers.
+/// Makes calls on the notes of a disk, and shows their answers and then the disk's octets.
 fn play_and_show(alloc: Global, row: &str) -> Result<String> {
     let (octets, calls) = two_parts(row, '|')?;
     let mut disk = disk_of(alloc, octets)?;
@@ -34,7 +34,7 @@ fn play_and_show(alloc: Global, row: &str) -> Result<String> {
     text_of(alloc, format_args!("{answers} | {octets}"))
 }
 
-/// Makes calls on the notes of a disk of which so many calls pass.
+/// Makes calls on the notes of a disk of which this number of calls pass.
 fn play_failing(alloc: Global, row: &str) -> Result<String> {
     let (count, octets, calls) = three_parts(row, '|')?;
     let count = count.trim().parse::<u64>()?;

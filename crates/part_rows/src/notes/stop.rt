@@ -53,7 +53,7 @@ impl Stop<'_> {
         self.asked(alloc, self.disk(alloc)?)
     }
 
-    /// What is answered on those after them where the disk doesn't stop.
+    /// What is answered on those after them when the disk doesn't stop.
     fn asked_after(&self, alloc: Global) -> Result<String> {
         self.asked(alloc, self.done(alloc)?)
     }
@@ -73,14 +73,14 @@ impl Stop<'_> {
         Ok(MemoryDisk::new(alloc, self.octets, &[])?)
     }
 
-    /// The disk after the calls, where it doesn't stop in them.
+    /// The disk after the calls, when it doesn't stop in them.
     fn done(&self, alloc: Global) -> Result<MemoryDisk> {
         let mut disk = self.disk(alloc)?;
         let _answers = play_calls(alloc, &mut disk, self.calls)?;
         Ok(disk)
     }
 
-    /// What the calls answer where it stops in them, and the disk then.
+    /// What the calls answer when it stops in them, and the disk then.
     fn stopped(&self, alloc: Global) -> Result<(String, MemoryDisk)> {
         let mut disk = FuseDisk::new(self.disk(alloc)?, self.count);
         let answers = play_calls(alloc, &mut disk, self.calls)?;

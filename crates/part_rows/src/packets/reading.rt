@@ -27,7 +27,7 @@ fn read_in_pieces(alloc: Global, octets: &[u8], len: usize) -> Result<String>
     Ok(parts.end())
 }
 
-/// Puts each packet that is read in pieces of a length, and `more` where the last piece ends none.
+/// Puts each packet that is read in pieces of a length, and `more` if the last piece ends none.
 fn put_all(alloc: Global, octets: &[u8], len: usize, parts: &mut Parts) -> Result<()>
     requires { 0 < len }
 {
@@ -72,7 +72,7 @@ pub fn put_packet(alloc: Global, packet: &Packet<'_>, parts: &mut Parts) -> Resu
     }
 }
 
-/// Puts octets behind a name.
+/// Puts octets after a name.
 fn put_named(alloc: Global, name: &str, octets: &[u8], parts: &mut Parts) -> Result<()> {
     let octets = octets_text(alloc, octets)?;
     parts.show(format_args!("{name} {octets}"))

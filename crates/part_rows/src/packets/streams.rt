@@ -60,7 +60,7 @@ fn cut_anywhere(alloc: Global, octets: &[u8]) -> Result<String> {
     Ok(text)
 }
 
-/// The same where they are cut at a place.
+/// The same if they are cut at a place.
 fn cut_at(alloc: Global, octets: &[u8], at: usize) -> Result<String> {
     ensure!(at <= octets.len(), "no place");
     let (front, back) = octets.split_at(at);

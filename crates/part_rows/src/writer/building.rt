@@ -31,7 +31,7 @@ fn empty(alloc: Global, names: &str) -> Result<HeaderBuilder> {
     Ok(HeaderBuilder::new(alloc, name, ext, 0, 0, 0, 0)?)
 }
 
-/// So many octets.
+/// This number of octets.
 fn octets_of<const N: usize>(alloc: Global, text: &str) -> Result<[u8; N]> {
     let octets = read_octets(alloc, text)?;
     ensure!(octets.len() == N, "another number of octets");
@@ -52,7 +52,7 @@ fn put(alloc: Global, builder: &mut HeaderBuilder, item: &str, parts: &mut Parts
     parts.show_answer(put_often(builder, id, data.as_slice(), times))
 }
 
-/// Puts an item so often, and what the last put answers.
+/// Puts an item this number of times, and what the last put answers.
 fn put_often(
     builder: &mut HeaderBuilder,
     id: u16,

@@ -9,7 +9,7 @@ use Rattle.real_outside.specs.declared.tcp.connection_air.Stage.{Stage}
 use Rattle.real_outside.specs.declared.tcp.connection_air.Stage.TheVariants as stage
 use Rattle.real_outside.proofs.Names.{false≢true, Connects, HearsAt, LimitsReads, Opens, Readies, SaysAt, Sends, SendsAtOnce, Then, stage_after_saying, stage_after_turn, ConnectionCall}
 
--- how many connections an air made that is so far
+-- how many connections an air at this stage made
 abbrev made : Stage → ℕ
 made stage.Unmade = 0
 made stage.Open = 1
@@ -60,7 +60,7 @@ opens_made stage.Broken calls opens =
     (λ later. connections_then (SendsAtOnce true) (LimitsReads false) 0 0 later (at_once_none true) (limits_none false)) cut)
     opens
 
--- an air that stays where it is asks for nothing
+-- an air that stays at its stage asks for nothing
 stays : (before ready : Stage) (calls : List ConnectionCall) → ready ≡ before → calls ≡ [] → all_connections calls + made before ≡ made ready
 stays before ready calls same none = let a = ap all_connections none in let b = ap made same in omega (arith, a, b)
 
@@ -111,7 +111,7 @@ made_after_saying stage.Ended true = refl
 made_after_saying stage.Ended false = refl
 made_after_saying stage.Broken done = refl
 
--- a call of an air makes a connection exactly where the air has one from then on
+-- a call of an air makes a connection exactly if the air has one from then on
 call_made : (before : Stage) (one : AirCall) → IsAirCall before one → all_connections one.calls + made before ≡ made one.after
 call_made before one is =
     ⊎_elim

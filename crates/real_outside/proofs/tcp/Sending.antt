@@ -1,4 +1,4 @@
--- What the calls that send octets come to.
+-- What the calls that send octets add up to.
 use Rattle.std.proofs.Common.{◌≡◌, inl, inr, ⊎_elim, ℕ, ◌+◌, ◌<◌, List, [], ◌∷◌, ◌++◌, length, take, drop, Bool, true}
 use Rattle.std.proofs.Common.{false, Ok, Err, refl, sym, ◌∙◌, ap, subst, arith, append_assoc}
 use Rattle.px_base.specs.Octets.{IsFront}
@@ -28,7 +28,7 @@ whole_send octets (call.Flush answer ∷ later) run = ap all_taken run.1 ∙ sym
 none_taken : (octets : List ℕ) (later : List ConnectionCall) → later ≡ [] → IsFront (all_taken later) octets
 none_taken octets later none = (octets, sym (ap (λ (l : List ConnectionCall). all_taken l ++ octets) none))
 
--- of what isn't sent a front was taken
+-- of what isn't sent a prefix was taken
 pub cut_send : (octets : List ℕ) (done : Bool) (calls : List ConnectionCall) → Sends octets done calls → IsFront (all_taken calls) octets
 cut_send octets done [] run = absurd run
 cut_send octets done (call.Connect answer ∷ later) run = absurd run
@@ -55,7 +55,7 @@ cut_send octets done (call.Write bytes (Ok count) ∷ later) run =
     run.2
 cut_send octets done (call.Flush answer ∷ later) run = none_taken octets later run.1
 
--- whatever sends the octets behind so many sends all of them behind these calls
+-- whatever sends the octets from this place on sends all of them after these calls
 abbrev pub Leads : List ℕ → ℕ → List ConnectionCall → Type 0
 Leads octets written calls =
     (done : Bool) (later : List ConnectionCall) → Sends (drop written octets) done later → Sends octets done (calls ++ later)

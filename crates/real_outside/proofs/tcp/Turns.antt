@@ -1,4 +1,4 @@
--- What a poll finds where reading answers so.
+-- What a poll finds if reading answers so.
 use Rattle.std.proofs.Common.{◌≡◌, ℕ, zero, suc, ◌≤◌, List, [], ◌∷◌, length, Bool, true, false, if◌then◌else◌, Result}
 use Rattle.std.proofs.Common.{Ok, Err, IfOk, IsErr, refl, ap, arith}
 use Rattle.px_base.specs.declared.air.Turn.TheVariants as turn

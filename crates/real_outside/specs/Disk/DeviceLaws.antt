@@ -1,4 +1,4 @@
--- What short reads and writes come to on a device that does what it answers.
+-- What short reads and writes add up to on a device that does what it answers.
 use Rattle.std.specs.Prelude.{◌≡◌, ℕ, ◌<◌, List, length, take, drop, Bool, true, fold, Ok, Err, ⊤}
 use Rattle.std.specs.List.{AllByRecursion}
 use Rattle.disk_model.specs.Disk.{Torn}
@@ -19,7 +19,7 @@ octets_after_call octets (call.Sync answer) = octets
 abbrev pub octets_after : List ℕ → List DeviceCall → List ℕ
 octets_after octets calls = fold octets_after_call octets calls
 
--- what a read gave stands there
+-- what a read gave is there
 abbrev pub IsTrueRead : List ℕ → DeviceCall → Type 0
 IsTrueRead octets (call.Len answer) = ⊤
 IsTrueRead octets (call.Read at count (Ok given)) = given ≡ take (length given) (drop at octets)
@@ -42,7 +42,7 @@ IsTornWrite =
     → WritesAll at written calls done
     → Torn at (length written) octets (octets_after octets calls)
 
--- Reads that are done, however short, give the octets that stand there.
+-- Reads that are done, however short, give the octets that are there.
 abbrev pub IsOneRead : Type 0
 IsOneRead =
     (octets : List ℕ) (at count : ℕ) (calls : List DeviceCall)

@@ -7,7 +7,7 @@ use Rattle.real_outside.specs.declared.disk.device.DeviceCall.TheVariants as cal
 use Rattle.real_outside.specs.declared.disk.device.DeviceDown.{DeviceDown}
 use Rattle.disk_model.specs.declared.disk.DiskFault.{DiskFault}
 
--- A disk over a device: whether a write or a sync of it failed, from when on each of its calls fails, and its counts of
+-- A disk over a device: whether a write or a sync of it failed, after which each of its calls fails, and its counts of
 -- faults.
 pub record DeviceDiskState (V : Type 0) : Type 0 where
   pub device : V
@@ -15,7 +15,7 @@ pub record DeviceDiskState (V : Type 0) : Type 0 where
   pub read_faults : ℕ
   pub write_faults : ℕ
 
--- the octets that a call of a device gave: none, where it is no read or failed
+-- the octets that a call of a device gave: none, if it is no read or failed
 abbrev pub octets_given : DeviceCall → List ℕ
 octets_given (call.Len answer) = []
 octets_given (call.Read at count (Ok octets)) = octets
@@ -28,7 +28,7 @@ abbrev pub all_given : List DeviceCall → List ℕ
 all_given [] = []
 all_given (next ∷ later) = octets_given next ++ all_given later
 
--- how many octets a call read or wrote: none, where it failed
+-- how many octets a call read or wrote: none, if it failed
 abbrev pub moved : DeviceCall → ℕ
 moved (call.Len answer) = 0
 moved (call.Read at count answer) = length (octets_given (call.Read at count answer))
@@ -36,7 +36,7 @@ moved (call.Write at octets (Ok count)) = count
 moved (call.Write at octets (Err down)) = 0
 moved (call.Sync answer) = 0
 
--- the call asks for so many octets from this place on
+-- the call asks for this number of octets from this place on
 abbrev pub IsReadOf : ℕ → ℕ → DeviceCall → Type 0
 IsReadOf at count (call.Len answer) = ⊥
 IsReadOf at count (call.Read place wanted answer) = (place ≡ at) × (wanted ≡ count)
@@ -50,7 +50,7 @@ IsWriteOf at octets (call.Read place wanted answer) = ⊥
 IsWriteOf at octets (call.Write place written answer) = (place ≡ at) × (written ≡ octets)
 IsWriteOf at octets (call.Sync answer) = ⊥
 
--- so many octets were moved by the call, at least one; or none, and that is a fault
+-- this number of octets was moved by the call, at least one; or none, and that is a fault
 abbrev pub Moves : Result ℕ DiskFault → DeviceCall → Type 0
 Moves (Ok count) next = (0 < count) × (moved next ≡ count)
 Moves (Err fault) next = moved next ≡ 0
@@ -60,18 +60,18 @@ abbrev pub IsMoved : Result ℕ DeviceDown → Result ℕ DiskFault → Type 0
 IsMoved (Ok count) result = (count ≡ 0 → IsErr result) × (0 < count → result ≡ Ok count)
 IsMoved (Err down) result = IsErr result
 
--- One call reached the device, which moved so many octets, and has P.
+-- One call reached the device, which moved this number of octets, and has P.
 abbrev pub MovesOnce :
     Option (List DeviceCall) → Option (List DeviceCall) → Result ℕ DiskFault → (DeviceCall → Type 0) → Type 0
 MovesOnce before now result P = (next : DeviceCall) × Grows before now (next ∷ []) × Moves result next × P next
 
--- the call asks for so many octets from this place on, and what it gave is the front of the room
+-- the call asks for this number of octets from this place on, and what it gave is the beginning of the room
 abbrev pub IsReadInto : ℕ → List ℕ → Result ℕ DiskFault → DeviceCall → Type 0
 IsReadInto at room result next =
     IsReadOf at (length room) next × IfOk result (λ count. octets_given next ≡ take count room)
 
--- Of so many octets this many were moved, and these calls move the others: each asks for what is left behind those
--- moved before it. They are done where none is left; a call that moves none while some are left is the last one, and
+-- Of `all` octets the first `before` were moved, and these calls move the others: each asks for what is left after
+-- those moved before it. They are done if none is left; a call that moves none while some are left is the last one, and
 -- they aren't done.
 abbrev pub GoesOn : (ℕ → DeviceCall → Type 0) → ℕ → ℕ → List DeviceCall → Bool → Type 0
 GoesOn IsNext all before [] done = (before ≡ all) × (done ≡ true)
@@ -81,7 +81,7 @@ GoesOn IsNext all before (next ∷ later) done =
     × (((moved next ≡ 0) × (later ≡ []) × (done ≡ false))
     ⊎ ((0 < moved next) × GoesOn IsNext all (before + moved next) later done))
 
--- These calls read so many octets from this place on.
+-- These calls read this number of octets from this place on.
 abbrev pub ReadsAll : ℕ → ℕ → List DeviceCall → Bool → Type 0
 ReadsAll at count = GoesOn (λ before. IsReadOf (at + before) (count - before)) count 0
 
@@ -89,8 +89,8 @@ ReadsAll at count = GoesOn (λ before. IsReadOf (at + before) (count - before)) 
 abbrev pub WritesAll : ℕ → List ℕ → List DeviceCall → Bool → Type 0
 WritesAll at octets = GoesOn (λ before. IsWriteOf (at + before) (drop before octets)) (length octets) 0
 
--- What reaches the device by a call of the disk has P; but where the disk refuses the call, it fails, and nothing
--- reaches the device.
+-- What reaches the device by a call of the disk has P; but if the disk refuses the call, it fails, and nothing reaches
+-- the device.
 pub record AsksUnless {V T : Type 0} (told : V → Option (List DeviceCall)) (refused : Type 0) (before now : V)
     (result : Result T DiskFault) (P : List DeviceCall → Type 0) : Type 0 where
   pub asks : (refused → ⊥) → Asks (told before) (told now) P
@@ -102,7 +102,7 @@ abbrev pub AsksUnlessBroken :
     → (List DeviceCall → Type 0) → Type 0
 AsksUnlessBroken told before now result P = AsksUnless told (before.broken ≡ true) before.device now.device result P
 
--- The disk is broken, or so many octets at this place would end past the most octets of a disk.
+-- The disk is broken, or this number of octets at this place would end past the most octets of a disk.
 abbrev pub RefusesRange : Bool → ℕ → ℕ → Type 0
 RefusesRange broken at count = (broken ≡ true) ⊎ (2 ^ 63 < at + count)
 
@@ -126,7 +126,7 @@ pub record FillsFrom {T : Type 0} (at : ℕ) (room : List ℕ) (result : Result 
 abbrev pub PutsAt : {T : Type 0} → ℕ → List ℕ → Result T DiskFault → List DeviceCall → Type 0
 PutsAt at octets result calls = WritesAll at octets calls (is_ok result)
 
--- a sync is done exactly where the device answers so
+-- a sync is done exactly if the device answers so
 abbrev pub IsSynced : {T : Type 0} → Result Unit DeviceDown → Result T DiskFault → Type 0
 IsSynced (Ok done) result = IsOk result
 IsSynced (Err down) result = IsErr result

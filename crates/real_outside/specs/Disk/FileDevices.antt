@@ -6,31 +6,31 @@ use Rattle.real_outside.specs.declared.files.file_call.FileCall.{FileCall}
 use Rattle.real_outside.specs.declared.files.file_call.FileCall.TheVariants as call
 use Rattle.real_outside.specs.declared.system_error.SystemError.{SystemError}
 
--- a device over a file: the files, its path, the file where it is open, and whether its entry in its folder was synced
+-- a device over a file: the files, its path, the file if it is open, and whether its entry in its folder was synced
 pub record FileDeviceState (S F : Type 0) : Type 0 where
   pub files : S
   pub path : List ℕ
   pub file : Option F
   pub has_entry : Bool
 
--- what the system answered where the device answers so
+-- what the system answered if the device answers so
 abbrev pub system_answer_of : {T : Type 0} → Result T DeviceDown → Result T SystemError
 system_answer_of (Ok value) = Ok value
 system_answer_of (Err down) = Err down.error
 
--- Its path stays, and where its file was open, that very file is open still.
+-- Its path stays, and if its file was open, that very file is open still.
 pub record KeepsFile {S F : Type 0} (before now : FileDeviceState S F) : Type 0 where
   pub path : now.path ≡ before.path
   pub file : IfSome before.file (λ file. now.file ≡ Some file)
 
--- The open file is taken, or the file of this path is opened and locked; where that fails, the answer says why.
+-- The open file is taken, or the file of this path is opened and locked; if that fails, the answer says why.
 abbrev pub TakesFile : {F : Type 0} → (F → ℕ) → List ℕ → Option F → Result F DeviceDown → List FileCall → Type 0
 TakesFile number path before (Ok file) calls =
     ((before ≡ Some file) × (calls ≡ [])) ⊎ ((before ≡ None) × OpensLocked path (Ok (number file)) calls)
 TakesFile number path before (Err down) calls = (before ≡ None) × OpensLocked path (Err down.error) calls
 
--- A call of the device, of which P says what it asks of the file: where the file isn't open, it is opened and locked
--- first, and where that fails, nothing more is asked, and the answer says why.
+-- A call of the device, of which P says what it asks of the file: if the file isn't open, it is opened and locked
+-- first, and if that fails, nothing more is asked, and the answer says why.
 abbrev pub AfterOpening :
     {S F T : Type 0} → (F → ℕ) → (before now : FileDeviceState S F) → Result T DeviceDown
     → (ℕ → List FileCall → Type 0) → List FileCall → Type 0
@@ -47,7 +47,7 @@ AfterOpening {S} {F} number before now result P calls =
 abbrev pub AsksLength : Result ℕ DeviceDown → ℕ → List FileCall → Type 0
 AsksLength result file calls = calls ≡ call.Length file (system_answer_of result) ∷ []
 
--- it is read once at this place, and the front of the room is what it gives
+-- it is read once at this place, and the beginning of the room is what it gives
 abbrev pub Reads : ℕ → List ℕ → Result ℕ DeviceDown → ℕ → List FileCall → Type 0
 Reads at room result file calls = calls ≡ call.Read file at (length room) (octets_read (system_answer_of result) room) ∷ []
 

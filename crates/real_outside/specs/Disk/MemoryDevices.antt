@@ -28,7 +28,7 @@ abbrev pub new_device_state : List ℕ → ℕ → List ℕ → MemoryDeviceStat
 new_device_state octets most failing =
     record { octets = octets; most = most; made = no_calls; counter = new_counter failing }
 
--- A call that moves no octets fails exactly where it is listed, and the octets stay.
+-- A call that moves no octets fails exactly if it is listed, and the octets stay.
 pub record IsPlain {T : Type 0} (before now : MemoryDeviceState) (result : Result T DeviceDown) : Type 0 where
   pub ok : OnOk result (IsListed before.counter → ⊥)
   pub err : OnErr result (IsListed before.counter)
@@ -36,7 +36,7 @@ pub record IsPlain {T : Type 0} (before now : MemoryDeviceState) (result : Resul
   pub octets : now.octets ≡ before.octets
   pub most : now.most ≡ before.most
 
--- the octets that a read of at most so many gives
+-- the octets that a read of at most this number gives
 abbrev pub next_octets : MemoryDeviceState → ℕ → ℕ → List ℕ
 next_octets state at count = take (min state.most count) (drop at state.octets)
 
@@ -52,8 +52,8 @@ abbrev pub IsListedOrStarved : CallCounterState → CallCounterState → Type 0
 IsListedOrStarved before now =
     (IsListed before × (now ≡ counter_after_call before)) ⊎ (now ≡ counter_after_starved_call before)
 
--- A write writes the first of the octets, as many as one call moves; it fails where it is listed, or finds no memory,
--- and the octets stay.
+-- A write writes the first of the octets, as many as one call moves; it fails if it is listed, or finds no memory, and
+-- the octets stay.
 pub record IsDeviceWrite (before now : MemoryDeviceState) (at : ℕ) (octets : List ℕ) (result : Result ℕ DeviceDown)
     : Type 0 where
   pub ok : OnOk result ((IsListed before.counter → ⊥) × (now.counter ≡ counter_after_call before.counter))

@@ -1,7 +1,7 @@
--- What a disk tells whose content isn't told.
+-- What can be observed of a disk whose content can't be.
 use Rattle.std.specs.Prelude.{ℕ, List, Option, None}
 
--- its content isn't told
+-- its content can't be observed
 abbrev pub no_content : Option (List ℕ)
 no_content = None
 

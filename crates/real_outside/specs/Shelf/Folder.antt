@@ -1,4 +1,4 @@
--- What contracts see of a shelf over a folder, and what it answers where the system answers so.
+-- What contracts see of a shelf over a folder, and what it answers if the system answers so.
 use Rattle.std.specs.Prelude.{◌≡◌, ◌≢◌, ◌↔◌, ℕ, List, [], ◌∷◌, Option, Some, Result, Ok, Err, OnOk, IfErr, IfOk, IsErr}
 use Rattle.std.specs.IoError.{error_kind}
 use Rattle.std.specs.declared.io.Error.{Error}
@@ -31,24 +31,24 @@ pub record RefusesReading (kind : ErrorKind) (result : ShelfRefusal) : Type 0 wh
   pub memory : (result ≡ refusal.OutOfMemory) ↔ (kind ≡ reason.OutOfMemory)
   pub fault : kind ≢ reason.OutOfMemory → result ≡ refusal.Fault
 
--- One that can't be opened for this reason is refused so: `NoSuch` exactly where the system says that nothing is there.
+-- One that can't be opened for this reason is refused so: `NoSuch` exactly if the system says that nothing is there.
 pub record RefusesOpening (kind : ErrorKind) (result : ShelfRefusal) : Type 0 where
   pub no_such : (result ≡ refusal.NoSuch) ↔ (kind ≡ reason.NotFound)
   pub memory : (result ≡ refusal.OutOfMemory) ↔ (kind ≡ reason.OutOfMemory)
   pub fault : kind ≢ reason.NotFound → kind ≢ reason.OutOfMemory → result ≡ refusal.Fault
 
--- what a load of at most so many octets answers where reading one more answered so, and gave these octets
+-- what a load of at most this number of octets answers if reading one more answered so, and gave these octets
 pub record IsReadingAnswer (read : Result ℕ Error) (octets : List ℕ) (most : ℕ) (result : LoadResult) : Type 0 where
   pub ok : OnOk read (result ≡ load_answer (Some octets) most)
   pub err : IfErr read (λ error. IsErr result × IfErr result (RefusesReading (error_kind error)))
 
--- what a load answers where opening the file answered so: `NoSuch` only where that says that nothing is there
+-- what a load answers if opening the file answered so: `NoSuch` only if that says that nothing is there
 abbrev pub OpensToLoad : Result Unit SystemError → LoadResult → Type 0
 OpensToLoad (Ok done) result = result ≢ Err refusal.NoSuch
 OpensToLoad (Err error) result = IsErr result × IfErr result (RefusesOpening error.kind)
 
--- What a load of at most so many octets asks of the files, and what it answers: the file of this path is opened once, and
--- where that is done, the answer is of all octets that its reader has left.
+-- What a load of at most this number of octets asks of the files, and what it answers: the file of this path is opened
+-- once, and if that is done, the answer is of all octets that its reader has left.
 abbrev pub AnswersOpened :
     {R : Type 0} → (R → Option (List ℕ)) → (before now : Option (List FileCall)) → List ℕ → ℕ → LoadResult → Type 0
 AnswersOpened {R} remaining before now path most result =

@@ -14,7 +14,7 @@ use Rattle.real_outside.specs.declared.system_error.SystemError.{SystemError}
 --
 -- What a step asks for, by its answer. A step that is refused ends what is done, and its refusal is the answer.
 
--- a step's answer, and the calls that it comes to
+-- a step's answer, and the calls that it makes
 abbrev pub Step : Type 1
 Step = Result Unit SystemError → List FileCall → Type 0
 
@@ -22,7 +22,7 @@ Step = Result Unit SystemError → List FileCall → Type 0
 abbrev pub Once : (Result Unit SystemError → FileCall) → Step
 Once asked result calls = calls ≡ asked result ∷ []
 
--- first the one step, and where it is done the other
+-- first the one step, and if it is done the other
 abbrev pub InTurn : Step → Step → Step
 InTurn First Next result calls =
     (IsErr result × First result calls)
@@ -51,7 +51,7 @@ WritesSome at octets (Err error) file calls =
     WritesOnce at octets (Err error) file calls
     ⊎ (WritesOnce at octets (Ok 0) file calls × (error ≡ record { kind = reason.WriteZero; number = None }))
 
--- These octets are written from this place on, each write behind the octets of the one before, until none is left; the
+-- These octets are written from this place on, each write after the octets of the one before, until none is left; the
 -- first refusal is the answer. Each write is two calls, since the limit is asked for before; only one that the limit
 -- forbids is one.
 abbrev pub WritesFrom : ℕ → List ℕ → Result Unit SystemError → ℕ → List FileCall → Type 0
@@ -76,7 +76,7 @@ abbrev pub WritesSynced : List ℕ → Result Unit SystemError → ℕ → List 
 WritesSynced octets result file =
     InTurn (λ done. WritesFrom 0 octets done file) (Once (call.Sync file)) result
 
--- Its octets are taken away, and a mode is set where one is given.
+-- Its octets are taken away, and a mode is set if one is given.
 abbrev pub Prepares : Option ℕ → Result Unit SystemError → ℕ → List FileCall → Type 0
 Prepares None result file = Once (call.Cut file) result
 Prepares (Some mode) result file = InTurn (Once (call.Cut file)) (Once (call.SetMode file mode)) result
@@ -92,14 +92,14 @@ Fills mode octets result file =
 abbrev pub KeepsIn : List ℕ → List ℕ → Step
 KeepsIn name octets = OnLocked name (Fills None octets)
 
--- What was written at the path `part` takes the place of what stands at `path`, while the file that was written and the
--- one that is held are open still.
+-- What was written at the path `part` replaces what is at `path`, while the file that was written and the one that is
+-- held are open still.
 abbrev pub FillsAndMoves :
     List ℕ → List ℕ → Option ℕ → ℕ → List ℕ → Result Unit SystemError → ℕ → List FileCall → Type 0
 FillsAndMoves path part mode held octets result file =
     InTurn (λ done. Fills mode octets done file) (Once (call.Rename file held part path)) result
 
--- Then the folder is synced; where that wasn't done, the file at `part` is taken away.
+-- Then the folder is synced; if that wasn't done, the file at `part` is taken away.
 abbrev pub MovesFilled :
     List ℕ → List ℕ → Option ℕ → ℕ → List ℕ → Result Unit SystemError → ℕ → List FileCall → Type 0
 MovesFilled path part mode held octets result file calls =
@@ -111,11 +111,12 @@ MovesFilled path part mode held octets result file calls =
     × (calls ≡ first ++ call.SyncFolder (folder_of path) result ∷ [])
     × FillsAndMoves path part mode held octets (Ok tt) file first)
 
--- something that is no regular file stands where a file is to be written beside
+-- something that is no regular file is at the path at which the new content is to be written first
 abbrev pub already_there : SystemError
 already_there = record { kind = reason.AlreadyExists; number = None }
 
--- whether a file may be written beside where this was found: a regular file there was left by an earlier call
+-- whether a file may be written first at a path at which this was found: a regular file there was left by an earlier
+-- call
 abbrev pub answer_of_part : Result Found SystemError → Result Unit SystemError
 answer_of_part (Ok found.Nothing) = Ok tt
 answer_of_part (Ok (found.File mode)) = Ok tt
@@ -123,7 +124,7 @@ answer_of_part (Ok found.Link) = Err already_there
 answer_of_part (Ok found.Other) = Err already_there
 answer_of_part (Err error) = Err error
 
--- what stands at this path is looked at
+-- what is at this path is looked at
 abbrev pub ChecksPart : List ℕ → Step
 ChecksPart part result calls =
     (there : Result Found SystemError) × (calls ≡ call.Look part there ∷ []) × (result ≡ answer_of_part there)
@@ -150,8 +151,8 @@ WritesOver path part mode held octets = OnOpened (OpensPart part) (MovesFilled p
 abbrev pub out_of_memory : SystemError
 out_of_memory = record { kind = reason.OutOfMemory; number = None }
 
--- What stands at the path with `.part` behind takes the place of what stands at the path; a regular file that is there
--- is locked before.
+-- What is at the path with `.part` appended replaces what is at the path; a regular file that is there is locked
+-- before.
 abbrev pub Replaces : List ℕ → Option ℕ → List ℕ → Step
 Replaces path None octets result calls =
     WritesNew path (path ++ codes ".part") octets result calls ⊎ ((calls ≡ []) × (result ≡ Err out_of_memory))
@@ -188,8 +189,8 @@ OnFound path Next result calls =
 abbrev pub KeepsLinked : List ℕ → List ℕ → List ℕ → Step
 KeepsLinked name path octets = OnFound path (KeepsAt name path octets)
 
--- A link leads to no path for this reason: where nothing is there, it is written to in place, and made so; or poured
--- to, where the system made the link.
+-- A link leads to no path for this reason: if nothing is there, it is written to in place, and made so; or poured to,
+-- if the system made the link.
 abbrev pub KeepsUnresolved : List ℕ → List ℕ → SystemError → Step
 KeepsUnresolved name octets error result calls =
     ((error.kind ≡ reason.NotFound) × (is_of_system name ≡ true) × Once (call.Pour name octets) result calls)
@@ -217,7 +218,7 @@ KeepsFound name octets found.Other = Once (call.Pour name octets)
 abbrev pub Keeps : List ℕ → List ℕ → Step
 Keeps name octets = OnFound name (KeepsFound name octets)
 
--- The shelf answers Ok exactly where that was done.
+-- The shelf answers Ok exactly if that was done.
 abbrev pub KeepsAs : {E : Type 0} → List ℕ → List ℕ → Result Unit E → List FileCall → Type 0
 KeepsAs name octets result calls =
     (kept : Result Unit SystemError) × (IsOk result ↔ IsOk kept) × Keeps name octets kept calls

@@ -21,7 +21,7 @@ pub record ConnectionAirState (C : Type 0) : Type 0 where
   pub read_faults : ℕ
   pub write_faults : ℕ
 
--- what a stream tells, where there is one
+-- what can be observed of a stream, if there is one
 abbrev pub told_of : {S : Type 0} → (S → Option (List ℕ)) → Option S → Option (List ℕ)
 told_of told None = None
 told_of told (Some stream) = told stream
@@ -54,14 +54,14 @@ Opens stage.Broken = λ calls.
     Then (Connects true) (SendsAtOnce false) calls
     ⊎ Then (Connects true) (Then (SendsAtOnce true) (LimitsReads false)) calls
 
--- An air that was so far came so far before it heard or said octets: it is to be connected only where it never was.
+-- An air at this stage got to that one before it heard or said octets: it is to be connected only if it never was.
 abbrev pub Readies : Stage → Stage → List ConnectionCall → Type 0
 Readies stage.Unmade ready calls = Opens ready calls
 Readies stage.Open ready calls = (ready ≡ stage.Open) × (calls ≡ [])
 Readies stage.Ended ready calls = (ready ≡ stage.Ended) × (calls ≡ [])
 Readies stage.Broken ready calls = (ready ≡ stage.Broken) × (calls ≡ [])
 
--- The air came so far first, and the calls behind those for that have P.
+-- The air got to a stage first, and the calls after those for that have P.
 abbrev pub ReadiesThen : Stage → (Stage → List ConnectionCall → Type 0) → List ConnectionCall → Type 0
 ReadiesThen before P calls = (ready : Stage) × Then (Readies before ready) (P ready) calls
 
@@ -72,7 +72,7 @@ is_quiet reason.TimedOut = true
 is_quiet reason.Interrupted = true
 is_quiet _ = false
 
--- what a poll finds, where reading answers so
+-- what a poll finds, if reading answers so
 abbrev pub IsPollAnswer : Result ℕ SystemError → Result Polled AirDown → Type 0
 IsPollAnswer (Ok count) result = (count ≡ 0 → result ≡ Ok polled.End) × (0 < count → result ≡ Ok (polled.Bytes count))
 IsPollAnswer (Err failed) result =
@@ -84,7 +84,7 @@ turn_for (Ok []) = turn.End
 turn_for (Ok (octet ∷ octets)) = turn.Bytes (octet ∷ octets)
 turn_for (Err failed) = if is_quiet failed.kind then turn.Quiet else turn.Fail
 
--- What an air hears that is so far: the answer of one read, into 512 octets of room, of a connection that is open; and
+-- What an air at this stage hears: the answer of one read, into 512 octets of room, of a connection that is open; and
 -- nothing else is asked for.
 abbrev pub HearsAt : Stage → Turn → List ConnectionCall → Type 0
 HearsAt stage.Unmade next calls = (next ≡ turn.Fail) × (calls ≡ [])
@@ -115,7 +115,7 @@ IsShut stage.Open = ⊥
 IsShut stage.Ended = ⊤
 IsShut stage.Broken = ⊤
 
--- how many octets were taken, where writing answers so: none is a fault
+-- how many octets were taken, if writing answers so: none is a fault
 abbrev pub IsTaken : Result ℕ SystemError → Result ℕ AirDown → Type 0
 IsTaken (Ok count) result = (count ≡ 0 → IsErr result) × (0 < count → result ≡ Ok count)
 IsTaken (Err failed) result = IsErr result
@@ -125,7 +125,7 @@ abbrev pub WritesOnce : List ℕ → Result ℕ AirDown → List ConnectionCall 
 WritesOnce octets result calls =
     (answer : Result ℕ SystemError) × (calls ≡ call.Write octets answer ∷ []) × IsTaken answer result
 
--- Octets are sent: each write is of all that are left behind those taken before it; once none is left the connection is
+-- Octets are sent: each write is of all that are left after those taken before it; once none is left the connection is
 -- flushed, and that it answers so is the answer. A write that fails, or takes none, is the last call, and they aren't
 -- sent.
 abbrev pub Sends : List ℕ → Bool → List ConnectionCall → Type 0
@@ -142,7 +142,7 @@ Sends left done (call.Write octets (Err failed) ∷ calls) =
     (0 < length left) × (octets ≡ left) × (calls ≡ []) × (done ≡ false)
 Sends left done (call.Flush answer ∷ calls) = (left ≡ []) × (calls ≡ []) × (done ≡ is_ok answer)
 
--- What an air says that is so far: all of the octets on its connection, where it has one.
+-- What an air at this stage says: all of the octets on its connection, if it has one.
 abbrev pub SaysAt : Stage → List ℕ → Bool → List ConnectionCall → Type 0
 SaysAt stage.Unmade octets done calls = (done ≡ false) × (calls ≡ [])
 SaysAt stage.Open octets done calls = Sends octets done calls

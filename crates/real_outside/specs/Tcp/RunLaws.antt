@@ -1,4 +1,4 @@
--- What the calls of an air come to over a whole run.
+-- What the calls of an air add up to over a whole run.
 use Rattle.std.specs.Prelude.{◌⊎◌, ⊤, ℕ, ◌+◌, ◌≤◌, List, [], ◌∷◌, Bool, Ok, Err}
 use Rattle.px_base.specs.declared.air.Turn.{Turn}
 use Rattle.real_outside.specs.Tcp.Connections.{Polls, Puts}
@@ -11,13 +11,13 @@ pub record AirCall : Type 0 where
   pub calls : List ConnectionCall
   pub after : Stage
 
--- it was a poll or a put of an air that was so far
+-- it was a poll or a put of an air at this stage
 abbrev pub IsAirCall : Stage → AirCall → Type 0
 IsAirCall before made =
     ((next : Turn) × Polls before next made.after made.calls)
     ⊎ ((octets : List ℕ) × (done : Bool) × Puts before octets done made.after made.calls)
 
--- these were the calls of an air that was so far, one after the other
+-- these were the calls of an air at this stage, one after the other
 abbrev pub IsRun : Stage → List AirCall → Type 0
 IsRun before [] = ⊤
 IsRun before (made ∷ later) = IsAirCall before made × IsRun made.after later

@@ -1,11 +1,11 @@
--- What short writes come to.
+-- What short writes add up to.
 use Rattle.std.specs.Prelude.{◌≡◌, ℕ, List, [], ◌∷◌, ◌++◌, take, Bool, true, Ok, Err}
 use Rattle.px_base.specs.Octets.{IsFront}
 use Rattle.real_outside.specs.Tcp.Connections.{Sends}
 use Rattle.real_outside.specs.declared.tcp.connection.ConnectionCall.{ConnectionCall}
 use Rattle.real_outside.specs.declared.tcp.connection.ConnectionCall.TheVariants as call
 
--- the octets that a call took: none, where it is no write or failed
+-- the octets that a call took: none, if it is no write or failed
 abbrev pub octets_taken : ConnectionCall → List ℕ
 octets_taken (call.Connect answer) = []
 octets_taken (call.NoDelay answer) = []
@@ -24,7 +24,7 @@ all_taken (next ∷ later) = octets_taken next ++ all_taken later
 abbrev pub IsWholeSend : Type 0
 IsWholeSend = (octets : List ℕ) (calls : List ConnectionCall) → Sends octets true calls → all_taken calls ≡ octets
 
--- Of octets that aren't, a front was.
+-- Of octets that aren't, a prefix was.
 abbrev pub IsCutSend : Type 0
 IsCutSend =
     (octets : List ℕ) (done : Bool) (calls : List ConnectionCall) → Sends octets done calls → IsFront (all_taken calls) octets

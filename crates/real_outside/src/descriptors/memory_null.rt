@@ -12,7 +12,7 @@ use std::io::ErrorKind;
 use std::marker::Model;
 
 /// A null device in memory. Its openings have these descriptors in order; one without a descriptor fails, and so does
-/// each behind the last.
+/// each after the last.
 #[derive(Drop)]
 pub struct MemoryNull {
     descriptors: Vec<Option<i32>>,

@@ -6,13 +6,13 @@ ghost use Rattle.real_outside.specs.declared.system_error.SystemError.{SystemErr
 
 use crate::system_error::SystemError;
 
-/// The null device, which gives no octet and takes any. It may tell how each opening ended; the form in memory does, the
-/// real one doesn't.
+/// The null device, which gives no octet and takes any. How each opening ended may be observable: in the form in memory
+/// it is, in the real one it isn't.
 pub trait NullDevice {
-    /// The open null device. Its descriptor is free again where it is dropped.
+    /// The open null device. Its descriptor is free again when it is dropped.
     type Opened: Drop;
 
-    /// How each opening ended so far, where it is told.
+    /// How each opening ended so far, if that can be observed.
     ghost answers: { Self → Option (List (Result Self.Opened SystemError)) };
 
     /// The descriptor of an open null device.

@@ -9,7 +9,7 @@ use std::fs::{File, OpenOptions};
 use std::os::fd::AsRawFd;
 use std::rt::Files;
 
-/// The null device of the system, `/dev/null`. It tells no opening.
+/// The null device of the system, `/dev/null`. How its openings ended can't be observed.
 #[derive(Drop)]
 pub struct NullFile<'a, R> {
     files: &'a R,

@@ -1,4 +1,4 @@
-//! The device that a real disk stands on.
+//! The device that a real disk uses.
 
 ghost use Rattle.std.specs.Prelude.{◌≡◌, ◌∷◌, [], List, Option, length};
 ghost use Rattle.px_base.specs.Outside.{Grows};
@@ -36,13 +36,13 @@ pub enum DeviceCall {
     Len {
         answer: Result<u64, DeviceDown>,
     },
-    /// It was asked for so many octets from this place on, and gave these.
+    /// It was asked for this number of octets from this place on, and gave these.
     Read {
         at: u64,
         count: usize,
         answer: Result<FileBytes, DeviceDown>,
     },
-    /// It was given these octets to write at this place, and wrote so many of them.
+    /// It was given these octets to write at this place, and wrote this number of them.
     Write {
         at: u64,
         bytes: FileBytes,
@@ -56,18 +56,18 @@ pub enum DeviceCall {
 
 /// Octets at places, as a file has them. Reading and writing may be short, as those of a file are.
 ///
-/// A device may tell the calls that reached it; the form in memory does, a real one doesn't. What a failed call did to
-/// the octets is open.
+/// The calls that reached a device may be observable: those of the form in memory are, those of a real one aren't. What
+/// a failed call did to the octets is open.
 pub trait Device {
-    /// The calls that reached it so far, where they are told.
+    /// The calls that reached it so far, if they can be observed.
     ghost calls: { Self → Option (List DeviceCall) };
 
     /// The number of octets.
     fn len(&mut self) -> Result<u64, DeviceDown>
         ensures { Grows (calls self.old) (calls self.new) (DeviceCall.Len result ∷ []) };
 
-    /// Puts the first octets from this place on into the front of the room, and says how many: at most as many as the
-    /// room has, and none where the device ends at that place or before it.
+    /// Puts the first octets from this place on at the beginning of `room`, and says how many: at most as many as the
+    /// room has, and none if the device ends at that place or before it.
     fn read(&mut self, at: u64, room: &mut [u8]) -> Result<usize, DeviceDown>
         ensures moves { Moves (calls self.old) (calls self.new)
             (DeviceCall.Read at (length room.old) (octets_read result room.new)) (length room.old) result };

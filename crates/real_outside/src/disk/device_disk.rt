@@ -1,4 +1,4 @@
-//! A disk over a device. It tells nothing of its content; it counts its faults.
+//! A disk over a device. Its content can't be observed; it counts its faults.
 
 ghost use Rattle.std.specs.Prelude.{◌≡◌, ◌⊎◌, ◌↔◌, ◌+◌, ◌≤◌, ◌^◌, true, false, length, IfOk, IsErr, IsTrue};
 ghost use Rattle.real_outside.specs.Counts.{CountsFirst};
@@ -11,7 +11,7 @@ use disk_model::{Disk, DiskFault};
 use px_base::FaultCount;
 use std::marker::Model;
 
-/// A disk over a device, which it reads and writes in place. Short reads and writes are gone on with. Once a write or a
+/// A disk over a device, which it reads and writes in place. Short reads and writes are continued. Once a write or a
 /// sync of the device failed, the disk is broken: each further call fails and reaches no device, since a sync that
 /// follows may answer Ok for octets that never came to the device. Takes no memory.
 #[derive(Drop)]
@@ -85,8 +85,8 @@ impl<V: Device> Disk for DeviceDisk<V> {
         self.read_faults.count_err(length)
     }
 
-    /// Fills the room with the octets of the device from this place on. Where a read of the device gives none before
-    /// the room is full, as at its end, it is a fault; a range that would end past 2^63 is one that reaches no device.
+    /// Fills the room with the octets of the device from this place on. If a read of the device gives none before the
+    /// room is full, as at its end, it is a fault; a range that would end past 2^63 is one that reaches no device.
     fn read(&mut self, at: u64, room: &mut [u8]) -> Result<(), DiskFault>
         ensures faults { CountsFirst self.old.read_faults self.new.read_faults self.old.write_faults
             self.new.write_faults result }
@@ -98,7 +98,7 @@ impl<V: Device> Disk for DeviceDisk<V> {
         self.read_faults.count_err(read)
     }
 
-    /// Writes octets in place. Where a write of the device fails, or writes none of those left, it is a fault, and the
+    /// Writes octets in place. If a write of the device fails, or writes none of those left, it is a fault, and the
     /// disk is broken; a range that would end past 2^63 is one that reaches no device, and breaks nothing.
     fn write_at(&mut self, at: u64, bytes: &[u8]) -> Result<(), DiskFault>
         ensures faults { CountsFirst self.old.write_faults self.new.write_faults self.old.read_faults
@@ -112,7 +112,7 @@ impl<V: Device> Disk for DeviceDisk<V> {
         self.write_faults.count_err(written)
     }
 
-    /// Syncs the device once. Where that fails, the disk is broken.
+    /// Syncs the device once. If that fails, the disk is broken.
     fn sync(&mut self) -> Result<(), DiskFault>
         ensures faults { CountsFirst self.old.write_faults self.new.write_faults self.old.read_faults
             self.new.read_faults result }

@@ -12,10 +12,10 @@ use crate::files::{FileSystem, folder_of as folder_of_path, open_locked, write_o
 use crate::system_error::SystemError;
 use std::marker::Model;
 
-/// A file as a device. It is opened for reading and writing at the first call, and made where it isn't there. From then
-/// on it stays open, and is locked; a call at which another holds its lock fails, and the next one tries again. The
-/// first sync also syncs the folder of its path, so that a file that was just made stays. It tells none of its calls.
-/// Takes no memory.
+/// A file as a device. It is opened for reading and writing at the first call, and made if it isn't there. From then on
+/// it stays open, and is locked; a call at which another holds its lock fails, and the next one tries again. The first
+/// sync also syncs the folder of its path, so that a file that was just made stays. Its calls can't be observed. Takes
+/// no memory.
 #[derive(Drop)]
 pub struct FileDevice<'a, S: FileSystem> {
     files: S,
@@ -52,7 +52,7 @@ impl<'a, S: FileSystem> FileDevice<'a, S> {
         &self.files
     }
 
-    /// Takes the file, which it opens and locks where it isn't open yet.
+    /// Takes the file, which it opens and locks if it isn't open yet.
     fn take_file(&mut self) -> Result<S::File, DeviceDown>
         ensures open { IfSome self.old.file (λ file. result ≡ Ok file) }
         ensures takes { Asks (S.calls self.old.files) (S.calls self.new.files)
@@ -69,7 +69,8 @@ impl<'a, S: FileSystem> FileDevice<'a, S> {
 impl<'a, S: FileSystem> Device for FileDevice<'a, S> {
     ghost calls = { λ _. None };
 
-    /// The length of the file, which is where its end is: so that of a whole device, which tells no length, is known too.
+    /// The length of the file, found as the place of its end: so that of a whole device, which reports no length, is
+    /// known too.
     fn len(&mut self) -> Result<u64, DeviceDown>
         ensures keeps { KeepsFile self.old self.new }
         ensures entry { self.new.has_entry ≡ self.old.has_entry }
@@ -97,7 +98,7 @@ impl<'a, S: FileSystem> Device for FileDevice<'a, S> {
         device_answer(read)
     }
 
-    /// Writes to the file once, at this place, unless that is at the limit on the sizes of files or behind it.
+    /// Writes to the file once, at this place, unless that is at the limit on the sizes of files or past it.
     fn write(&mut self, at: u64, bytes: &[u8]) -> Result<usize, DeviceDown>
         ensures moves { Moves None None (DeviceCall.Write at bytes.now result) (length bytes.now) result }
         ensures keeps { KeepsFile self.old self.new }
@@ -144,7 +145,7 @@ fn sync_with_entry<S: FileSystem>(
     files.sync_folder(folder_of_path(path))
 }
 
-/// What a device answers where the system answers so.
+/// What a device answers if the system answers so.
 fn device_answer<T: Drop>(answer: Result<T, SystemError>) -> Result<T, DeviceDown>
     ensures ok { IfOk answer (λ value. result ≡ Ok value) }
     ensures err { IfErr answer (λ error. result ≡ Err (record { error = error })) }

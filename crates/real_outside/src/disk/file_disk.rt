@@ -8,8 +8,8 @@ use crate::files::RealFiles;
 use std::fs::File;
 use std::rt::Files;
 
-/// A file as a disk: the disk over it as a device. It tells nothing of its content; it counts its faults. A call at
-/// which the file can't be opened, or has another disk, fails. Takes no memory.
+/// A file as a disk: the disk over it as a device. Its content can't be observed; it counts its faults. A call at which
+/// the file can't be opened, or has another disk, fails. Takes no memory.
 pub type FileDisk<'a, R> = DeviceDisk<FileDevice<'a, RealFiles<'a, R>>>;
 
 impl<'a, R: Files<File = File>> DeviceDisk<FileDevice<'a, RealFiles<'a, R>>> {

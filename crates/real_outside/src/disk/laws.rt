@@ -12,7 +12,7 @@ pub fn cut_writes_law()
     ensures { IsTornWrite }
 {}
 
-/// Reads of a device that are done, however short, give the octets that stand there.
+/// Reads of a device that are done, however short, give the octets that are there.
 pub fn short_reads_law()
     ensures { IsOneRead }
 {}

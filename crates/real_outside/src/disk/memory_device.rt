@@ -16,8 +16,9 @@ use std::alloc::Global;
 use std::io::ErrorKind;
 use std::marker::Model;
 
-/// A device in memory, of which one call reads or writes so many octets at most. Its calls are numbered together from
-/// 1; one whose number is listed fails. A write that finds no memory fails too. No failed call changes an octet.
+/// A device in memory, of which one call reads or writes at most a given number of octets. Its calls are numbered
+/// together from 1; one whose number is listed fails. A write that finds no memory fails too. No failed call changes an
+/// octet.
 #[derive(Drop)]
 pub struct MemoryDevice {
     alloc: Global,
@@ -36,8 +37,8 @@ impl Model for MemoryDevice {
 }
 
 impl MemoryDevice {
-    /// A device with these octets, of which a call moves at most so many, and whose calls of these numbers fail. Takes
-    /// memory.
+    /// A device with these octets, of which a call moves at most this number, and whose calls of these numbers fail.
+    /// Takes memory.
     pub fn new(
         alloc: Global,
         bytes: &[u8],
@@ -62,14 +63,14 @@ impl MemoryDevice {
         self.octets.as_slice()
     }
 
-    /// The calls so far, with what they answered, but for those that found no memory to be recorded.
+    /// The calls so far, with what they answered, except those that found no memory to be recorded.
     pub fn calls(&self) -> &[DeviceCall]
         ensures { result.now ≡ self.now.made.calls }
     {
         self.made.calls()
     }
 
-    /// Whether its calls are told: each so far found the memory to be recorded.
+    /// Whether its calls can be observed: each so far found the memory to be recorded.
     pub fn is_told(&self) -> bool
         ensures { result ≡ not self.now.made.untold }
     {
@@ -83,7 +84,7 @@ impl MemoryDevice {
         self.counter.starved()
     }
 
-    /// Numbers a call, which fails where it is listed.
+    /// Numbers a call, which fails if it is listed.
     fn count(&mut self) -> Result<(), DeviceDown>
         ensures counter { self.new ≡ record self.old { counter = counter_after_call self.old.counter } }
         ensures ok { OnOk result (IsListed self.old.counter → ⊥) }
@@ -109,7 +110,7 @@ impl MemoryDevice {
         Ok(count)
     }
 
-    /// Puts the next octets into the front of the room, as many as one call moves.
+    /// Puts the next octets at the beginning of `room`, as many as one call moves.
     fn get(&mut self, at: u64, room: &mut [u8]) -> Result<usize, DeviceDown>
         ensures reads { IsDeviceRead self.old self.new at room.new result }
         ensures made { self.new.made ≡ self.old.made }
@@ -138,7 +139,7 @@ impl Device for MemoryDevice {
         answer
     }
 
-    /// Puts the next octets into the front of the room, as many as one call moves; a call that is listed fails.
+    /// Puts the next octets at the beginning of `room`, as many as one call moves; a call that is listed fails.
     fn read(&mut self, at: u64, room: &mut [u8]) -> Result<usize, DeviceDown>
         ensures moves { Moves (told self.old.made) (told self.new.made)
             (DeviceCall.Read at (length room.old) (octets_read result room.new)) (length room.old) result }

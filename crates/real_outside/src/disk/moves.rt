@@ -58,7 +58,7 @@ fn fill<V: Device>(device: &mut V, at: u64, room: &mut [u8]) -> Result<(), DiskF
     Ok(())
 }
 
-/// Reads at least one octet from this place on to the front of the room, and says how many.
+/// Reads at least one octet from this place on to the beginning of `room`, and says how many.
 fn read_some<V: Device>(device: &mut V, at: u64, room: &mut [u8]) -> Result<usize, DiskFault>
     ensures count { IfOk result (λ count. count ≤ length room.old) }
     ensures call { MovesOnce (V.calls device.old) (V.calls device.new) result (IsReadInto at room.new result) }
@@ -66,7 +66,7 @@ fn read_some<V: Device>(device: &mut V, at: u64, room: &mut [u8]) -> Result<usiz
     moved_answer(device.read(at, room))
 }
 
-/// Writes octets to the device, unless the disk is broken, or they would end too far; where that fails, the disk is
+/// Writes octets to the device, unless the disk is broken, or they would end too far; if that fails, the disk is
 /// broken.
 pub(crate) fn write_all<V: Device>(
     device: &mut V,
@@ -106,7 +106,7 @@ fn write_some<V: Device>(device: &mut V, at: u64, bytes: &[u8]) -> Result<usize,
     moved_answer(device.write(at, bytes))
 }
 
-/// How many octets a disk moved whose device answers so: none, where some are left, is a fault.
+/// How many octets a disk moved whose device answers so: none, if some are left, is a fault.
 fn moved_answer(moved: Result<usize, DeviceDown>) -> Result<usize, DiskFault>
     ensures { IsMoved moved result }
 {
@@ -116,7 +116,7 @@ fn moved_answer(moved: Result<usize, DeviceDown>) -> Result<usize, DiskFault>
     }
 }
 
-/// Syncs the device once, unless the disk is broken; where that fails, the disk is broken.
+/// Syncs the device once, unless the disk is broken; if that fails, the disk is broken.
 pub(crate) fn sync_once<V: Device>(device: &mut V, broken: &mut bool) -> Result<(), DiskFault>
     ensures asks { AsksUnless V.calls (broken.old ≡ true) device.old device.new result (SyncsOnce result) }
     ensures broken { IsTrue broken.new ↔ IsErr result }
@@ -136,7 +136,7 @@ fn sync<V: Device>(device: &mut V) -> Result<(), DiskFault>
     synced_answer(device.sync())
 }
 
-/// A disk is synced exactly where its device answers so.
+/// A disk is synced exactly if its device answers so.
 fn synced_answer(synced: Result<(), DeviceDown>) -> Result<(), DiskFault>
     ensures { IsSynced synced result }
 {

@@ -3,7 +3,7 @@
 use crate::system_error::SystemError;
 use px_base::FileBytes;
 
-/// What stands at a path.
+/// What is at a path.
 #[derive(Clone, Copy, Debug, PartialEq, Eq)]
 pub enum Found {
     /// Nothing.
@@ -20,11 +20,11 @@ pub enum Found {
 /// number.
 #[derive(Debug, Drop)]
 pub enum FileCall {
-    /// The place was asked for at which no write may begin, nor behind it.
+    /// The place was asked for from which on no write may begin.
     Limit {
         answer: u64,
     },
-    /// The file at this path was to be opened for reading and writing, and made where nothing is.
+    /// The file at this path was to be opened for reading and writing, and made if nothing is there.
     Open {
         path: FileBytes,
         answer: Result<u64, SystemError>,
@@ -39,21 +39,21 @@ pub enum FileCall {
         file: u64,
         answer: Result<u64, SystemError>,
     },
-    /// A file was asked for so many octets from this place on, and gave these.
+    /// A file was asked for this number of octets from this place on, and gave these.
     Read {
         file: u64,
         at: u64,
         count: usize,
         answer: Result<FileBytes, SystemError>,
     },
-    /// A file was given these octets to write at this place, and wrote so many of them.
+    /// A file was given these octets to write at this place, and wrote this number of them.
     Write {
         file: u64,
         at: u64,
         bytes: FileBytes,
         answer: Result<usize, SystemError>,
     },
-    /// A file was to be of no octets.
+    /// A file was to be cut to no octets.
     Cut {
         file: u64,
         answer: Result<(), SystemError>,
@@ -74,7 +74,7 @@ pub enum FileCall {
         path: FileBytes,
         answer: Result<(), SystemError>,
     },
-    /// It was asked what stands at this path, of which no link is followed.
+    /// It was asked what is at this path, of which no link is followed.
     Look {
         path: FileBytes,
         answer: Result<Found, SystemError>,
@@ -84,8 +84,8 @@ pub enum FileCall {
         path: FileBytes,
         answer: Result<FileBytes, SystemError>,
     },
-    /// What stands at a path was to stand at another one, in the place of what stood there, while these files were
-    /// open: the one that was moved, and the one that it replaced, or the first one twice.
+    /// What is at a path was to be moved to another one, in place of what was there, while these files were open: the
+    /// one that was moved, and the one that it replaced, or the first one twice.
     Rename {
         file: u64,
         held: u64,
@@ -98,13 +98,13 @@ pub enum FileCall {
         path: FileBytes,
         answer: Result<(), SystemError>,
     },
-    /// All of these octets were to be written, one after the other, to what stands at this path, as a pipe takes them.
+    /// All of these octets were to be written, one after the other, to what is at this path, as a pipe takes them.
     Pour {
         path: FileBytes,
         bytes: FileBytes,
         answer: Result<(), SystemError>,
     },
-    /// What stands at this path was to be opened for reading alone.
+    /// What is at this path was to be opened for reading alone.
     OpenToRead {
         path: FileBytes,
         answer: Result<(), SystemError>,

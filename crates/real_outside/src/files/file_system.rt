@@ -11,39 +11,39 @@ use crate::system_error::SystemError;
 use std::alloc::Global;
 use std::io::Read;
 
-/// The files of a system, with each call that reaches them. They may tell the calls; the form in memory does, the
-/// real one doesn't. A call that is refused says why.
+/// The files of a system, with each call that reaches them. The calls may be observable: in the form in memory they
+/// are, in the real one they aren't. A call that is refused says why.
 pub trait FileSystem {
-    /// A file that was opened for reading and writing. It is closed where it is dropped, and its lock is free again.
+    /// A file that was opened for reading and writing. It is closed when it is dropped, and its lock is free again.
     type File: Drop;
 
     /// What was opened for reading alone.
     type Reader: Read + Drop;
 
-    /// The calls that reached the files so far, where they are told.
+    /// The calls that reached the files so far, if they can be observed.
     ghost calls: { Self → Option (List FileCall) };
 
     /// The number of a file.
     ghost number: { Self.File → ℕ };
 
-    /// The place at which no write to a file may begin, nor behind it: the limit on the sizes of files.
+    /// The place from which on no write to a file may begin: the limit on the sizes of files.
     fn limit(&mut self) -> u64
         ensures { Grows (calls self.old) (calls self.new) (FileCall.Limit result ∷ []) };
 
-    /// Opens the file at this path for reading and writing, as it is; where nothing is, it is made.
+    /// Opens the file at this path for reading and writing, as it is; if nothing is there, it is made.
     fn open(&mut self, path: &str) -> Result<Self::File, SystemError>
         ensures { Grows (calls self.old) (calls self.new) (FileCall.Open path.now (file_answer number result) ∷ []) };
 
-    /// Takes the lock of a file; where another opened file holds it, that is refused.
+    /// Takes the lock of a file; if another opened file holds it, that is refused.
     fn lock(&mut self, file: &Self::File) -> Result<(), SystemError>
         ensures { Grows (calls self.old) (calls self.new) (FileCall.Lock (number file.now) result ∷ []) };
 
-    /// The length of a file: where its end is.
+    /// The length of a file: the place of its end.
     fn length(&mut self, file: &Self::File) -> Result<u64, SystemError>
         ensures { Grows (calls self.old) (calls self.new) (FileCall.Length (number file.now) result ∷ []) };
 
-    /// Puts the first octets of a file from this place on into the front of the room, and says how many: at most as
-    /// many as the room has, and none where the file ends at that place or before it.
+    /// Puts the first octets of a file from this place on at the beginning of `room`, and says how many: at most as
+    /// many as the room has, and none if the file ends at that place or before it.
     fn read_at(&mut self, file: &Self::File, at: u64, room: &mut [u8]) -> Result<usize, SystemError>
         ensures moves { Moves (calls self.old) (calls self.new)
             (FileCall.Read (number file.now) at (length room.old) (octets_read result room.new)) (length room.old)
@@ -70,7 +70,7 @@ pub trait FileSystem {
     fn sync_folder(&mut self, path: &str) -> Result<(), SystemError>
         ensures { Grows (calls self.old) (calls self.new) (FileCall.SyncFolder path.now result ∷ []) };
 
-    /// What stands at this path, where a link is not followed.
+    /// What is at this path, at which a link is not followed.
     fn look(&mut self, path: &str) -> Result<Found, SystemError>
         ensures { Grows (calls self.old) (calls self.new) (FileCall.Look path.now result ∷ []) };
 
@@ -78,9 +78,8 @@ pub trait FileSystem {
     fn resolve(&mut self, alloc: Global, path: &str) -> Result<String, SystemError>
         ensures { Grows (calls self.old) (calls self.new) (FileCall.Resolve path.now (path_answer result) ∷ []) };
 
-    /// Has what stands at the first path stand at the other one, in the place of what stood there. Two files are open
-    /// still, with their locks: the one that is moved, and the one that it replaces; where there is none, the first
-    /// one twice.
+    /// Moves what is at the first path to the other one, in place of what was there. Two files are open still, with
+    /// their locks: the one that is moved, and the one that it replaces; if there is none, the first one twice.
     fn rename(
         &mut self,
         file: &Self::File,
@@ -95,12 +94,11 @@ pub trait FileSystem {
     fn remove(&mut self, path: &str) -> Result<(), SystemError>
         ensures { Grows (calls self.old) (calls self.new) (FileCall.Remove path.now result ∷ []) };
 
-    /// Writes all of these octets, one after the other, to what stands at this path, as a pipe or a terminal takes
-    /// them.
+    /// Writes all of these octets, one after the other, to what is at this path, as a pipe or a terminal takes them.
     fn pour(&mut self, path: &str, bytes: &[u8]) -> Result<(), SystemError>
         ensures { Grows (calls self.old) (calls self.new) (FileCall.Pour path.now bytes.now result ∷ []) };
 
-    /// Opens what stands at this path for reading alone.
+    /// Opens what is at this path for reading alone.
     fn open_to_read(&mut self, path: &str) -> Result<Self::Reader, SystemError>
         ensures { Grows (calls self.old) (calls self.new) (FileCall.OpenToRead path.now (refusal result) ∷ []) };
 }

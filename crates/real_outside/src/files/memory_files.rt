@@ -14,8 +14,8 @@ use std::io::{self, ErrorKind};
 use std::marker::Model;
 
 /// Files in memory: each holds as many octets as are asked for, all of them 0, and at each path the same is found.
-/// Their calls are numbered together from 1; one whose number is listed fails. They tell their calls until one finds
-/// no memory to be recorded.
+/// Their calls are numbered together from 1; one whose number is listed fails. The calls can be observed until one
+/// finds no memory to be recorded.
 #[derive(Drop)]
 pub struct MemoryFiles {
     alloc: Global,
@@ -236,7 +236,7 @@ impl FileSystem for MemoryFiles {
     }
 }
 
-/// A reader of no octet, where opening it answered so.
+/// A reader of no octet, if opening it answered so.
 fn opened_empty(answer: Result<(), SystemError>) -> Result<io::Empty, SystemError>
     ensures { refusal result ≡ answer }
 {

@@ -17,8 +17,8 @@ use std::rt::Files;
 /// The number under which the system has the limit on the sizes of files.
 const LIMIT_ON_SIZES: i32 = 1;
 
-/// The files of the system. They tell none of their calls, and keep why the last one was refused that was. The limit on
-/// the sizes of files is asked for once.
+/// The files of the system. None of their calls can be observed; they keep why the last one was refused that was. The
+/// limit on the sizes of files is asked for once.
 #[derive(Drop)]
 pub struct RealFiles<'a, R> {
     files: &'a R,
@@ -141,7 +141,7 @@ impl<'a, R: Files<File = File>> FileSystem for RealFiles<'a, R> {
     }
 }
 
-/// For reading and writing, and made where nothing is.
+/// For reading and writing, and made if nothing is there.
 fn for_both() -> OpenOptions
     ensures { result ≡ with_create (with_write (with_read new_options true) true) true }
 {
@@ -150,7 +150,7 @@ fn for_both() -> OpenOptions
     options
 }
 
-/// Syncs this file. Where a signal interrupts the call, it is made again, as `File::sync_all` makes it.
+/// Syncs this file. If a signal interrupts the call, it is made again, as `File::sync_all` makes it.
 fn sync_file(file: &File) -> Result<(), SystemError> {
     if libc::fsync(file.as_raw_fd()) >= 0 {
         return Ok(());
@@ -167,7 +167,7 @@ fn sync_folder<R: Files<File = File>>(files: &R, path: &str) -> io::Result<()> {
     File::open(files, path)?.sync_all()
 }
 
-/// What asking for a lock comes to: one that another holds would have to be waited for.
+/// What asking for a lock answers: one that another holds would have to be waited for.
 fn lock_answer(locked: Result<(), TryLockError>) -> Result<(), SystemError>
     ensures { result ≡ answer_of_lock locked }
 {
@@ -178,7 +178,7 @@ fn lock_answer(locked: Result<(), TryLockError>) -> Result<(), SystemError>
     }
 }
 
-/// What stands where the system answers so: nothing exactly where it says that nothing is there.
+/// What is at a path if the system answers so: nothing exactly if it says that nothing is there.
 fn found_answer(found: io::Result<Metadata>) -> Result<Found, SystemError>
     ensures { IsFound found result }
 {
@@ -193,7 +193,7 @@ fn found_answer(found: io::Result<Metadata>) -> Result<Found, SystemError>
     }
 }
 
-/// The limit on the sizes of files; the last number, where there is none, or it can't be asked for.
+/// The limit on the sizes of files; the last number, if there is none, or it can't be asked for.
 fn limit_on_sizes() -> u64 {
     let mut limits = libc::types::rlimit {
         rlim_cur: u64::MAX,

@@ -11,7 +11,8 @@ use crate::system_error::SystemError;
 use std::io::ErrorKind;
 use std::path::Path;
 
-/// Opens the file of this path as it is, makes it where nothing is, and takes its lock. It fails where either is refused.
+/// Opens the file of this path as it is, makes it if nothing is there, and takes its lock. It fails if either is
+/// refused.
 pub(crate) fn open_locked<S: FileSystem>(files: &mut S, path: &str) -> Result<S::File, SystemError>
     ensures { Asks (S.calls files.old) (S.calls files.new) (OpensLocked path.now (file_answer S.number result)) }
 {
@@ -22,8 +23,8 @@ pub(crate) fn open_locked<S: FileSystem>(files: &mut S, path: &str) -> Result<S:
     }
 }
 
-/// Writes the first of these octets to a file at this place, and says how many. Where that place is at the limit on the
-/// sizes of files or behind it, which would end the program, it fails with `FileTooLarge`, and nothing is written.
+/// Writes the first of these octets to a file at this place, and says how many. If that place is at the limit on the
+/// sizes of files or past it, which would end the program, it fails with `FileTooLarge`, and nothing is written.
 pub(crate) fn write_once<S: FileSystem>(
     files: &mut S,
     file: &S::File,
@@ -40,7 +41,7 @@ pub(crate) fn write_once<S: FileSystem>(
     files.write_at(file, at, bytes)
 }
 
-/// The folder of this path: the path's parent, or the working folder where it has none.
+/// The folder of this path: the path's parent, or the working folder if it has none.
 pub(crate) fn folder_of(path: &str) -> &str
     ensures { result.now ≡ folder_of_path path.now }
 {

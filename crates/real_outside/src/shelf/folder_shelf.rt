@@ -18,8 +18,8 @@ use std::fs::File;
 use std::marker::Model;
 use std::rt::Files;
 
-/// A shelf over files. A file is opened at the call that asks for it, and closed at its end. It tells nothing of what
-/// it holds; it counts its faults.
+/// A shelf over files. A file is opened at the call that asks for it, and closed at its end. What it holds can't be
+/// observed; it counts its faults.
 #[derive(Drop)]
 pub struct FolderShelf<S> {
     files: S,
@@ -69,9 +69,9 @@ impl<S: FileSystem> Shelf for FolderShelf<S> {
 
     ghost faults = { λ a. a.faults };
 
-    /// The octets of the file at this path: all that its reader has left. It reads at most one more than `most`. A
-    /// path at which there is nothing is `NoSuch`; where opening or reading fails otherwise, but for want of memory,
-    /// a fault is counted.
+    /// The octets of the file at this path: all that its reader has left. It reads at most one more than `most`. A path
+    /// at which there is nothing is `NoSuch`; if opening or reading fails otherwise, unless it is out of memory, a
+    /// fault is counted.
     fn load(&mut self, alloc: Global, name: &str, most: usize) -> Result<FileBytes, ShelfRefusal>
         ensures most { IsWithin most result }
         ensures faults { HasLoadCause self.old.faults self.new.faults result }
@@ -86,12 +86,12 @@ impl<S: FileSystem> Shelf for FolderShelf<S> {
         answer
     }
 
-    /// Sets the octets of the file at this path. A regular file, and one that isn't there yet, is written beside,
-    /// under a name with `.part` at its end, and synced; then it takes the place of the old one, whose mode it has,
-    /// and its folder is synced. So whatever fails, or whenever the power goes, there is the old file or the new one,
-    /// and Ok says that the new one stays. A link is followed. The lock of a file that is replaced is asked for
-    /// before: one that another holds, as a store that is in use, is a fault. What is no regular file, as a pipe or
-    /// `/dev/stdout`, is written to in place.
+    /// Sets the octets of the file at this path. A regular file, and one that isn't there yet, is written next to it
+    /// first, under its name with `.part` appended, and synced; then it replaces the old one, whose mode it has, and
+    /// its folder is synced. So whatever fails, or whenever the power goes, there is the old file or the new one, and
+    /// Ok says that the new one stays. A link is followed. The lock of a file that is replaced is asked for before: one
+    /// that another holds, as a store that is in use, is a fault. What is no regular file, as a pipe or `/dev/stdout`,
+    /// is written to in place.
     fn keep(&mut self, name: &str, bytes: &[u8]) -> Result<(), ShelfDown>
         ensures faults { Counts self.old.faults self.new.faults result }
         ensures keeps { Asks (S.calls self.old.files) (S.calls self.new.files) (KeepsAs name.now bytes.now result) }
@@ -101,7 +101,7 @@ impl<S: FileSystem> Shelf for FolderShelf<S> {
     }
 }
 
-/// Content is kept exactly where each step of that was done.
+/// Content is kept exactly if each step of that was done.
 fn keep_answer(kept: Result<(), SystemError>) -> Result<(), ShelfDown>
     ensures { IsOk result ↔ IsOk kept }
 {

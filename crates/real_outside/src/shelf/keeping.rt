@@ -28,7 +28,7 @@ pub(crate) fn keep_at<S: FileSystem>(
     keep_found(files, alloc, name, found, bytes)
 }
 
-/// Keeps them where this stands at the name.
+/// Keeps them if this is at the name.
 fn keep_found<S: FileSystem>(
     files: &mut S,
     alloc: Global,
@@ -46,7 +46,7 @@ fn keep_found<S: FileSystem>(
     }
 }
 
-/// Keeps them where a link stands at the name.
+/// Keeps them if a link is at the name.
 fn follow<S: FileSystem>(
     files: &mut S,
     alloc: Global,
@@ -61,8 +61,8 @@ fn follow<S: FileSystem>(
     }
 }
 
-/// Keeps them where a link leads to no path for this reason: the file isn't there yet; or the link is one of the
-/// system's own, and what it leads to has no path, as a pipe.
+/// Keeps them if a link leads to no path for this reason: the file isn't there yet; or the link is one of the system's
+/// own, and what it leads to has no path, as a pipe.
 fn keep_unresolved<S: FileSystem>(
     files: &mut S,
     name: &str,
@@ -80,7 +80,7 @@ fn keep_unresolved<S: FileSystem>(
     keep_in_place(files, name, bytes)
 }
 
-/// Keeps them where a link leads to this path.
+/// Keeps them if a link leads to this path.
 fn keep_linked<S: FileSystem>(
     files: &mut S,
     alloc: Global,
@@ -94,8 +94,8 @@ fn keep_linked<S: FileSystem>(
     keep_linked_at(files, alloc, name, path, found, bytes)
 }
 
-/// Keeps them where a link leads to this path, at which this stands. Where nothing stands there any more, or a link by
-/// now, what the name leads to has just changed, and it isn't written to.
+/// Keeps them if a link leads to this path, at which this is. If nothing is there any more, or a link by now, what the
+/// name leads to has just changed, and it isn't written to.
 fn keep_linked_at<S: FileSystem>(
     files: &mut S,
     alloc: Global,
@@ -131,7 +131,7 @@ fn keep_in_place<S: FileSystem>(files: &mut S, name: &str, bytes: &[u8]) -> Resu
     fill(files, &file, None, bytes)
 }
 
-/// Replaces the file at this path, which had this mode where it was there. Its lock is taken first, and held meanwhile.
+/// Replaces the file at this path, which had this mode if it was there. Its lock is taken first, and held meanwhile.
 fn replace<S: FileSystem>(
     files: &mut S,
     alloc: Global,
@@ -148,7 +148,7 @@ fn replace<S: FileSystem>(
     }
 }
 
-/// Writes a file that isn't there yet: to the path `part` first, from where it is moved to `path`.
+/// Writes a file that isn't there yet: to the path `part` first, from which it is moved to `path`.
 fn write_new<S: FileSystem>(
     files: &mut S,
     path: &str,
@@ -176,7 +176,7 @@ fn replace_locked<S: FileSystem>(
     write_over(files, &held, path, part, mode, bytes)
 }
 
-/// Writes what is to replace this file, which is held: to the path `part` first, from where it is moved to `path`.
+/// Writes what is to replace this file, which is held: to the path `part` first, from which it is moved to `path`.
 fn write_over<S: FileSystem>(
     files: &mut S,
     held: &S::File,
@@ -192,7 +192,7 @@ fn write_over<S: FileSystem>(
     move_filled(files, &file, held, path, part, Some(mode), bytes)
 }
 
-/// The path under which what is to stand at this path is written first.
+/// The path to which the new content of this path is written first.
 fn part_of(alloc: Global, path: &str) -> Result<String, SystemError>
     ensures ok { IfOk result (λ part. string_bytes part ≡ path.now ++ codes ".part") }
     ensures err { IfErr result (λ error. error ≡ out_of_memory) }
@@ -204,7 +204,7 @@ fn part_of(alloc: Global, path: &str) -> Result<String, SystemError>
     Ok(part)
 }
 
-/// Opens the file at the path `part` and takes its lock, unless what stands there is no regular file.
+/// Opens the file at the path `part` and takes its lock, unless what is there is no regular file.
 fn open_part<S: FileSystem>(files: &mut S, part: &str) -> Result<S::File, SystemError>
     ensures { Asks (S.calls files.old) (S.calls files.new) (OpensPart part.now (file_answer S.number result)) }
 {
@@ -212,14 +212,15 @@ fn open_part<S: FileSystem>(files: &mut S, part: &str) -> Result<S::File, System
     open_locked(files, part)
 }
 
-/// Fails where something stands at this path that is no regular file.
+/// Fails if something is at this path that is no regular file.
 fn check_part<S: FileSystem>(files: &mut S, part: &str) -> Result<(), SystemError>
     ensures { Asks (S.calls files.old) (S.calls files.new) (ChecksPart part.now result) }
 {
     part_answer(files.look(part))
 }
 
-/// Whether a file may be written beside where this was found: a regular file there was left by an earlier call.
+/// Whether a file may be written first at a path at which this was found: a regular file there was left by an earlier
+/// call.
 fn part_answer(found: Result<Found, SystemError>) -> Result<(), SystemError>
     ensures { result ≡ answer_of_part found }
 {
@@ -230,8 +231,8 @@ fn part_answer(found: Result<Found, SystemError>) -> Result<(), SystemError>
     }
 }
 
-/// Fills the file at the path `part`, moves it to `path`, and syncs the folder. Where the file can't be filled or
-/// moved, it is taken away.
+/// Fills the file at the path `part`, moves it to `path`, and syncs the folder. If the file can't be filled or moved,
+/// it is taken away.
 fn move_filled<S: FileSystem>(
     files: &mut S,
     file: &S::File,
@@ -270,7 +271,7 @@ fn fill_and_move<S: FileSystem>(
     files.rename(file, held, part, path)
 }
 
-/// Has the file hold these octets alone, and this mode where one is given, and syncs it.
+/// Has the file hold these octets alone, and this mode if one is given, and syncs it.
 fn fill<S: FileSystem>(
     files: &mut S,
     file: &S::File,
@@ -283,7 +284,7 @@ fn fill<S: FileSystem>(
     write_synced(files, file, bytes)
 }
 
-/// Takes the octets of the file away, and sets this mode where one is given.
+/// Takes the octets of the file away, and sets this mode if one is given.
 fn prepare<S: FileSystem>(
     files: &mut S,
     file: &S::File,

@@ -11,7 +11,7 @@ use px_base::{FileBytes, ShelfRefusal};
 use std::alloc::Global;
 use std::io::{self, ErrorKind, Read};
 
-/// What a load answers, where opening the file answered so.
+/// What a load answers, if opening the file answered so.
 pub(crate) fn load_opened<F: Read + Drop>(
     opened: Result<F, SystemError>,
     alloc: Global,
@@ -27,7 +27,7 @@ pub(crate) fn load_opened<F: Read + Drop>(
     }
 }
 
-/// Why there is no content, where a file can't be opened for this reason.
+/// Why there is no content, if a file can't be opened for this reason.
 fn opening_refusal(kind: ErrorKind) -> ShelfRefusal
     ensures { RefusesOpening kind result }
 {
@@ -37,7 +37,7 @@ fn opening_refusal(kind: ErrorKind) -> ShelfRefusal
     }
 }
 
-/// Why there is no content, where a file can't be read for this reason.
+/// Why there is no content, if a file can't be read for this reason.
 fn reading_refusal(kind: ErrorKind) -> ShelfRefusal
     ensures { RefusesReading kind result }
 {
@@ -64,7 +64,7 @@ fn read_whole<R: Read + Drop>(
     reading_answer(read, octets, most)
 }
 
-/// What a load answers, where reading at most one octet more than `most` answered so, and gave these.
+/// What a load answers, if reading at most one octet more than `most` answered so, and gave these.
 fn reading_answer(
     read: io::Result<usize>,
     octets: Vec<u8>,

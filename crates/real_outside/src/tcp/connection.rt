@@ -1,4 +1,4 @@
-//! The connection that an air stands on.
+//! The connection that an air uses.
 
 ghost use Rattle.std.specs.Prelude.{◌∷◌, [], List, Option, length};
 ghost use Rattle.px_base.specs.Outside.{Grows};
@@ -20,17 +20,17 @@ pub enum ConnectionCall {
     NoDelay {
         answer: Result<(), SystemError>,
     },
-    /// A read of it was to wait so many milliseconds at most.
+    /// A read of it was to wait this number of milliseconds at most.
     ReadLimit {
         milliseconds: u64,
         answer: Result<(), SystemError>,
     },
-    /// It was asked for at most so many octets, and gave these.
+    /// It was asked for at most this number of octets, and gave these.
     Read {
         count: usize,
         answer: Result<FileBytes, SystemError>,
     },
-    /// It was given these octets to send, and took so many of them.
+    /// It was given these octets to send, and took this number of them.
     Write {
         bytes: FileBytes,
         answer: Result<usize, SystemError>,
@@ -42,11 +42,11 @@ pub enum ConnectionCall {
 }
 
 /// A connection to a modem, as TCP gives one: octets both ways, in order. Reading and writing may be short. The calls
-/// but `connect` are of the connection that was made last; where none was, they fail.
+/// other than `connect` are of the connection that was made last; if none was, they fail.
 ///
-/// A connection may tell the calls that reached it; the form in memory does, a real one doesn't.
+/// The calls that reached a connection may be observable: those of the form in memory are, those of a real one aren't.
 pub trait Connection {
-    /// The calls that reached it so far, where they are told.
+    /// The calls that reached it so far, if they can be observed.
     ghost calls: { Self → Option (List ConnectionCall) };
 
     /// Makes the connection.
@@ -57,13 +57,13 @@ pub trait Connection {
     fn set_no_delay(&mut self) -> Result<(), SystemError>
         ensures { Grows (calls self.old) (calls self.new) (ConnectionCall.NoDelay result ∷ []) };
 
-    /// Has each read wait so many milliseconds at most.
+    /// Has each read wait this number of milliseconds at most.
     fn set_read_limit(&mut self, milliseconds: u64) -> Result<(), SystemError>
         ensures { Grows (calls self.old) (calls self.new) (ConnectionCall.ReadLimit milliseconds result ∷ []) };
 
-    /// Puts the next octets into the front of the room, and says how many: at most as many as the room has, and none
-    /// where the modem has closed the connection. The kinds `WouldBlock`, `TimedOut` and `Interrupted` of an error say
-    /// that none came yet.
+    /// Puts the next octets at the beginning of `room`, and says how many: at most as many as the room has, and none if
+    /// the modem has closed the connection. The kinds `WouldBlock`, `TimedOut` and `Interrupted` of an error say that
+    /// none came yet.
     fn read(&mut self, room: &mut [u8]) -> Result<usize, SystemError>
         ensures moves { Moves (calls self.old) (calls self.new)
             (ConnectionCall.Read (length room.old) (octets_read result room.new)) (length room.old) result };

@@ -1,4 +1,4 @@
-//! An air over a connection. It tells nothing of what it hears and says; it counts its faults.
+//! An air over a connection. What it hears and says can't be observed; it counts its faults.
 
 ghost use Rattle.std.specs.Prelude.{◌≡◌, IfOk, is_ok};
 ghost use Rattle.px_base.specs.Polling.{IsPolled, turn_of};
@@ -24,10 +24,10 @@ pub(crate) enum Stage {
     Broken,
 }
 
-/// An air over a connection, which it makes at its first call: with no delay of small segments, and with reads that wait
-/// 100 milliseconds at most. Where no connection can be made, the call fails, and the next one tries again, once; after
-/// one was made, no other is. Once the modem has closed it, each further poll answers `End`; octets can still be said,
-/// since a modem may close its own side alone. Once a call of it failed, each further call fails, and reaches no
+/// An air over a connection, which it makes at its first call: with no delay of small segments, and with reads that
+/// wait 100 milliseconds at most. If no connection can be made, the call fails, and the next one tries again, once;
+/// after one was made, no other is. Once the modem has closed it, each further poll answers `End`; octets can still be
+/// said, since a modem may close its own side alone. Once a call of it failed, each further call fails, and reaches no
 /// connection. Takes no memory.
 #[derive(Drop)]
 pub struct ConnectionAir<C> {
@@ -82,9 +82,9 @@ impl<C: Connection> Air for ConnectionAir<C> {
 
     ghost write_faults = { λ a. a.write_faults };
 
-    /// Reads the connection once, which it makes where there is none yet: `Quiet` where nothing came in 100
-    /// milliseconds or a signal came first, and `End` where the modem has closed it. It fails where the connection can't
-    /// be made, and where reading fails otherwise.
+    /// Reads the connection once, which it makes if there is none yet: `Quiet` if nothing came in 100 milliseconds or a
+    /// signal came first, and `End` if the modem has closed it. It fails if the connection can't be made, and if
+    /// reading fails otherwise.
     fn poll(&mut self, room: &mut [u8; 512]) -> Result<Polled, AirDown>
         ensures count { IfOk result IsPolled }
         ensures faults { CountsFirst self.old.read_faults self.new.read_faults self.old.write_faults
@@ -97,8 +97,8 @@ impl<C: Connection> Air for ConnectionAir<C> {
         self.read_faults.count_err(polled)
     }
 
-    /// Writes all of these octets to the connection, which it makes where there is none yet, and flushes it. It fails
-    /// where the connection can't be made, and where a write or flushing fails, or a write takes no octet.
+    /// Writes all of these octets to the connection, which it makes if there is none yet, and flushes it. It fails if
+    /// the connection can't be made, and if a write or flushing fails, or a write takes no octet.
     fn put(&mut self, bytes: &[u8]) -> Result<(), AirDown>
         ensures faults { CountsFirst self.old.write_faults self.new.write_faults self.old.read_faults
             self.new.read_faults result }

@@ -8,7 +8,7 @@ pub fn whole_send_law()
     ensures { IsWholeSend }
 {}
 
-/// Of octets that aren't all sent a front was taken.
+/// Of octets that aren't all sent a prefix was taken.
 pub fn cut_send_law()
     ensures { IsCutSend }
 {}

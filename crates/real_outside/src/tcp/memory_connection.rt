@@ -13,8 +13,8 @@ use px_base::{CallRecord, FileBytes, OutOfMemory};
 use std::alloc::Global;
 use std::marker::Model;
 
-/// A connection in memory, which answers by a script. It tells the calls that reached it, until one finds no memory to
-/// be recorded.
+/// A connection in memory, which answers by a script. The calls that reached it can be observed, until one finds no
+/// memory to be recorded.
 #[derive(Drop)]
 pub struct MemoryConnection {
     alloc: Global,

@@ -17,7 +17,7 @@ use std::io::ErrorKind;
 /// The longest time that a read waits, in milliseconds.
 const READ_LIMIT: u64 = 100;
 
-/// Polls the connection, which it makes where there is none yet.
+/// Polls the connection, which it makes if there is none yet.
 pub(crate) fn hear<C: Connection>(
     connection: &mut C,
     stage: &mut Stage,
@@ -34,7 +34,7 @@ pub(crate) fn hear<C: Connection>(
     polled
 }
 
-/// Polls the connection of an air at this stage, where there is one and what it answers isn't known.
+/// Polls the connection of an air at this stage, if there is one and what it answers isn't known.
 fn hear_at<C: Connection>(
     connection: &mut C,
     stage: Stage,
@@ -60,8 +60,8 @@ fn hear_once<C: Connection>(connection: &mut C, room: &mut [u8; 512]) -> Result<
     poll_answer(connection.read(room))
 }
 
-/// What a poll found, where reading answered so: `Quiet` where nothing came in time or a signal came first, and `End`
-/// exactly where it gave no octet.
+/// What a poll found, if reading answered so: `Quiet` if nothing came in time or a signal came first, and `End` exactly
+/// if it gave no octet.
 fn poll_answer(read: Result<usize, SystemError>) -> Result<Polled, AirDown>
     ensures { IsPollAnswer read result }
 {
@@ -94,7 +94,7 @@ fn after_hearing(stage: Stage, polled: Result<Polled, AirDown>) -> Stage
     }
 }
 
-/// Says these octets on the connection, which it makes where there is none yet.
+/// Says these octets on the connection, which it makes if there is none yet.
 pub(crate) fn say<C: Connection>(
     connection: &mut C,
     stage: &mut Stage,
@@ -110,7 +110,7 @@ pub(crate) fn say<C: Connection>(
     said
 }
 
-/// Says these octets on the connection of an air at this stage, where there is one.
+/// Says these octets on the connection of an air at this stage, if there is one.
 fn say_at<C: Connection>(connection: &mut C, stage: Stage, bytes: &[u8]) -> Result<(), AirDown>
     ensures asks { Asks (C.calls connection.old) (C.calls connection.new) (SaysAt stage bytes.now (is_ok result)) }
     ensures broken { stage ≡ Stage.Broken → connection.new ≡ connection.old }
@@ -121,7 +121,7 @@ fn say_at<C: Connection>(connection: &mut C, stage: Stage, bytes: &[u8]) -> Resu
     }
 }
 
-/// How far an air at this stage is after saying octets, where that answered so.
+/// How far an air at this stage is after saying octets, if that answered so.
 fn after_saying(stage: Stage, said: Result<(), AirDown>) -> Stage
     ensures { result ≡ stage_after_saying stage (is_ok said) }
 {
@@ -150,7 +150,7 @@ fn write_some<C: Connection>(connection: &mut C, bytes: &[u8]) -> Result<usize, 
     taken_answer(connection.write(bytes))
 }
 
-/// How many octets were taken, where writing answered so: none is a fault.
+/// How many octets were taken, if writing answered so: none is a fault.
 fn taken_answer(written: Result<usize, SystemError>) -> Result<usize, AirDown>
     ensures { IsTaken written result }
 {
@@ -167,7 +167,7 @@ fn flush<C: Connection>(connection: &mut C) -> Result<(), AirDown>
     connection.flush().map_err(|_| AirDown)
 }
 
-/// Makes the connection of an air at this stage where it has none yet, and says how far the air is then.
+/// Makes the connection of an air at this stage if it has none yet, and says how far the air is then.
 fn make_ready<C: Connection>(connection: &mut C, stage: Stage) -> Stage
     ensures asks { Asks (C.calls connection.old) (C.calls connection.new) (Readies stage result) }
     ensures stays { IsShut stage → connection.new ≡ connection.old }

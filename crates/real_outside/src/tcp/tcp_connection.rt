@@ -34,8 +34,8 @@ impl<'a, R: Net<Stream = TcpStream>> ConnectionAir<TcpConnection<'a, R, TcpStrea
     }
 }
 
-/// A TCP connection to a host and port, which has a stream once it was made. It tells none of its calls, and keeps why
-/// the last one failed that did. Takes no memory.
+/// A TCP connection to a host and port, which has a stream once it was made. None of its calls can be observed; it
+/// keeps why the last one failed that did. Takes no memory.
 #[derive(Drop)]
 pub struct TcpConnection<'a, R, S> {
     net: &'a R,
@@ -156,7 +156,7 @@ fn not_made() -> SystemError
     SystemError::from(ErrorKind::NotConnected)
 }
 
-/// So many milliseconds, as a limit of time.
+/// This number of milliseconds, as a limit of time.
 fn time_of(milliseconds: u64) -> Option<Duration>
     ensures some { IsSome result }
     ensures time { IfSome result (λ time. as_nanos time ≡ milliseconds * 1_000_000) }

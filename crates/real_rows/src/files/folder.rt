@@ -40,7 +40,7 @@ fn remove<R: Files>(rt: &R, name: &str) -> io::Result<()> {
     fs::remove_file(rt, name)
 }
 
-/// The octets of a file, or `nothing` where nothing is there. Takes memory.
+/// The octets of a file, or `nothing` if nothing is there. Takes memory.
 pub fn content_text(alloc: Global, content: io::Result<Vec<u8>>) -> Result<String> {
     match content {
         Ok(octets) => octets_text(alloc, octets.as_slice()),

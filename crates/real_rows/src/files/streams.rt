@@ -59,7 +59,7 @@ pub fn show<R: Files<File = File>>(
     answer_text(alloc, out.put(octets.as_slice()))
 }
 
-/// Opens a file to write to it behind its end, and makes it where it isn't there.
+/// Opens a file to append to it, and makes it if it isn't there.
 fn open_to_write<R: Files<File = File>>(rt: &R, name: &str) -> io::Result<File> {
     let mut options = OpenOptions::new();
     options.append(true).create(true);

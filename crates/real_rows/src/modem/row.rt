@@ -29,7 +29,7 @@ pub struct ModemSteps<'a, R: Net<Stream = TcpStream>> {
 }
 
 impl<'a, R: Net<Stream = TcpStream> + Clock> ModemSteps<'a, R> {
-    /// Before the first step, where this listens at this address.
+    /// Before the first step, if this listens at this address.
     pub fn new(rt: &'a R, listener: R::Listener, address: &'a str) -> ModemSteps<'a, R> {
         ModemSteps {
             rt,
@@ -40,7 +40,7 @@ impl<'a, R: Net<Stream = TcpStream> + Clock> ModemSteps<'a, R> {
         }
     }
 
-    /// Polls the air, and sees how long that takes where it is quiet.
+    /// Polls the air, and measures how long that takes if it is quiet.
     fn poll(&mut self, alloc: Global) -> Result<String> {
         let start = Instant::now(self.rt)?;
         let polled = poll(alloc, &mut self.air)?;
@@ -68,7 +68,7 @@ impl<'a, R: Net<Stream = TcpStream> + Clock> ModemSteps<'a, R> {
         text_of(alloc, format_args!("{nodelay}, {wait} milliseconds"))
     }
 
-    /// What the modem hears: so many octets.
+    /// What the modem hears: this number of octets.
     fn hear(&mut self, alloc: Global, count: usize) -> Result<String> {
         let mut room = Vec::new(alloc);
         room.resize(count, 0)?;
@@ -76,7 +76,7 @@ impl<'a, R: Net<Stream = TcpStream> + Clock> ModemSteps<'a, R> {
         octets_text(alloc, room.as_slice())
     }
 
-    /// Makes a step of the modem, or of what stands for the air.
+    /// Makes a step of the modem, or of what is used as the air.
     fn change(&mut self, alloc: Global, words: &[&'a str]) -> Result<()> {
         match words {
             ["accept"] => {

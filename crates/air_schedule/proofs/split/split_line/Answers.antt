@@ -1,4 +1,4 @@
--- The LF is where the first line ends.
+-- The first LF is the end of the first line.
 use Rattle.std.proofs.Common.{◌≡◌, ◌+◌, ◌-◌, length, drop, eqb, sym, ◌∙◌, rules, tests, arith, length-drop}
 use Rattle.std.proofs.lemmas.Iterator.{YieldsList-from_slice}
 use Rattle.std.proofs.lemmas.Iterator.Search.{position_from_yields_List}

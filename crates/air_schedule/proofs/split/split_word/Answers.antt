@@ -1,4 +1,4 @@
--- The blank is where the first word ends.
+-- The first blank is the end of the first word.
 use Rattle.air_schedule.proofs.SplitLemmas.{first_word}
 use Rattle.air_schedule.proofs.split.split_word.Goals as goal
 

@@ -1,4 +1,4 @@
--- From the lemmas on facts where something begins.
+-- From the lemmas on facts when something begins.
 use Rattle.air_world.proofs.files.BeginLemmas.{facts-called, facts-opened_over}
 use Rattle.air_world.proofs.files.LongerLemmas.{facts-first, facts-longer}
 use Rattle.air_world.proofs.files.TaskLemmas.{facts-tasked}

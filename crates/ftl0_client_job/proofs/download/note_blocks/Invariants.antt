@@ -2,7 +2,7 @@ use Rattle.std.proofs.Common.{◌≡◌, ◌*◌, ◌<◌, ◌++◌, drop, lengt
 use Rattle.ftl0_client_job.proofs.Names.{DoesSeveral, gots}
 use Rattle.ftl0_client_job.proofs.download.note_blocks.Given as goal
 
--- so many blocks are noted, and the octets that are left stand behind them
+-- this number of blocks is noted, and the octets that are left come after them
 abbrev pub invariant-loop : goal.invariant-loop
 invariant-loop g l = record {
   octets : l.block.items ++ l.left ≡ drop (512 * l.counter) (l.rest.items ++ l.octets);

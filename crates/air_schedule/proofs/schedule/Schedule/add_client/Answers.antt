@@ -1,4 +1,4 @@
--- A client may follow where there are fewer than eight, no event stands, and none has its call.
+-- A client may follow if there are fewer than eight, there is no event, and none has its call.
 use Rattle.std.proofs.Common.{◌≡◌, ◌<◌, ◌≤◌, [], ◌∷◌, ◌++◌, length, map, true, false, ap, sym, subst, ◌∙◌, arith, length-append}
 use Rattle.air_schedule.proofs.Names.{list_any, eqb-false, length-map, AreDistinct, IsSchedule, Schedule, event_value}
 use Rattle.air_schedule.proofs.ScheduleLemmas.{IsSchedule-client, client_follows, is_known, is_new, is_same, not_distinct}

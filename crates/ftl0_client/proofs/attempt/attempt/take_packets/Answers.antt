@@ -1,4 +1,4 @@
--- A packet that is found is answered, and the loop stops where that stops.
+-- A packet that is found is answered, and the loop stops when that stops.
 use Rattle.std.proofs.Common.{◌≡◌, ◌++◌, ℕ, List, Err, rules, sym, subst}
 use Rattle.ftl0_client.proofs.Names.{Result, ⊤, Kept, read_item, under_way, octets_in, Halt, working, TakesOctetsBy}
 use Rattle.ftl0_client.proofs.attempt.FeedLemmas.{taking-next, taking-start, taking-stops}

@@ -4,7 +4,7 @@ use Rattle.ftl0_client.proofs.Names.{same_Some, IsSomeAttempt, Client, ClientSta
 use Rattle.ftl0_client.proofs.SomeLemmas.{some-client}
 use Rattle.ftl0_client.proofs.client.Client.some_law.Goals as goal
 
--- some client is stood for
+-- it stands for some client
 abbrev IsSome : ClientState → Type 0
 IsSome self = (client : Client) × IsClient self client
 

@@ -1,4 +1,4 @@
--- The notes stand on the disk.
+-- The notes are on the disk.
 use Rattle.client_notes.specs.State.{StandsOn}
 use Rattle.part_rows.proofs.notes.calls.play_on.Given as goal
 

@@ -6,7 +6,7 @@ use Rattle.real_outside.proofs.disk.moves.fill.Goals as goal
 abbrev IsNext : ℕ → ℕ → ℕ → DeviceCall → Type 0
 IsNext at all before = IsReadOf (at + before) (all - before)
 
--- the octets so far are the front of the room
+-- the octets so far are the beginning of the room
 abbrev Fills : ℕ → ℕ → ℕ → List ℕ → List DeviceCall → Type 0
 Fills at all done room calls = Leads (IsNext at all) all done calls × (all_given calls ≡ take done room)
 

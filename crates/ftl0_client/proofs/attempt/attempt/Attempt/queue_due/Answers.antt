@@ -1,4 +1,4 @@
--- What is due is queued, packet by packet, up to where nothing is, or fewer octets are free.
+-- What is due is queued, packet by packet, until nothing is, or fewer octets are free.
 use Rattle.ftl0_client.proofs.attempt.QueuingLemmas.{keeps-same, keeps-then, queues-none, queues-then}
 use Rattle.ftl0_client.proofs.attempt.attempt.Attempt.queue_due.Goals as goal
 

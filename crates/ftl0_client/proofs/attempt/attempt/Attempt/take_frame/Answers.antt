@@ -1,4 +1,4 @@
--- What the link told decides what becomes of the attempt.
+-- What the link reported decides what becomes of the attempt.
 use Rattle.std.proofs.Common.{rules, inl, inr, ◌≡◌, ◌++◌, ℕ, List, Option, Ok, ap, refl, sym, subst, ◌∙◌}
 use Rattle.ftl0_client.proofs.Names.{value_of, Heard, Bytes, Closed, Nothing, Opened, Reopened, Why, Tells, after_frame, heard_of, Window, packets_of, under_way, MayTake, JobState, with_notes, Attempted, AttemptState, HearsBy, IsAttempt, working, TakesOctetsBy, accepting, after_hearing, down_by, packets_heard, with_end, attempt_state, taking, Several-none, puts_same}
 use Rattle.ftl0_client.proofs.attempt.FeedLemmas.{hears-octets}
