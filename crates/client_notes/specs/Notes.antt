@@ -4,6 +4,7 @@ use Rattle.std.specs.List.{position}
 use Rattle.std.specs.Option.{option_map}
 use Rattle.std.specs.Str.{bytes_eq}
 use Rattle.px_base.specs.CallSign.{CallSign}
+use Rattle.client_notes.specs.declared.got_file.Got.{Got}
 use Rattle.client_notes.specs.declared.progress.Progress.{Progress}
 
 -- A task: a file of this name, length and digest goes to this server by this caller. The number is the one that the
@@ -74,3 +75,11 @@ octets_or_none (Some file) = file.octets
 -- the octets got of the file of this number of this server
 abbrev pub got_of : Lists → CallSign → ℕ → List ℕ
 got_of lists server number = octets_or_none (find (is_file_of server number) lists.got)
+
+-- what is told of a got file
+abbrev pub told_got : GotFile → Got
+told_got file = record { server = file.server; number = file.number; length = length file.octets }
+
+-- the got file at this place, in the order of first octets, in which the files stand
+abbrev pub got_file_at : Lists → ℕ → Option Got
+got_file_at lists place = option_map told_got (slice_get lists.got place)

@@ -20,10 +20,11 @@ IsRecovered g disk disk_now self = kept.IsRestored g notes_form 1 disk (notes_on
 abbrev pub StandsAlike : List ℕ → List ℕ → Type 0
 StandsAlike = kept.StandsAlike notes_form 1
 
--- What a recovery answers and leaves on the disk, whether it is refused or not. But for a fault of the disk and want of
--- memory each refusal comes exactly where the content stands for it, and leaves it as it was. A crash since the start
--- leaves what it might have left before, or what stands for the same, and a content of 18 octets or more as it is;
--- since the end of the first sync the latter, but where that sync failed.
+-- What a recovery answers and leaves on the disk, whether it is refused or not. But for a fault of the disk and out of
+-- memory each refusal comes exactly where the content stands for it, and leaves it as it was. Out of memory comes only
+-- where the content is that of notes, or of none yet. A crash since the start leaves what it might have left before, or
+-- what stands for the same, and a content of 18 octets or more as it is; since the end of the first sync the latter,
+-- but where that sync failed.
 abbrev pub AnswersRecovery : {D T : Type 0} → Ghosts D → Result T StoreFault → D → D → Type 0
 AnswersRecovery g result disk disk_now = kept.AnswersRecovery g notes_form 1 result disk disk_now
 

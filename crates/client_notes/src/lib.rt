@@ -10,6 +10,7 @@ mod answers;
 mod applied;
 mod changes;
 mod command;
+mod got_file;
 pub mod laws;
 mod limits;
 mod lists;
@@ -24,8 +25,9 @@ mod writing;
 
 pub use answers::{Begun, Noted};
 pub use file_journal::StoreFault;
+pub use got_file::Got;
 pub use limits::{LONGEST_FILE, LONGEST_NAME, MOST_GOT, MOST_TASKS};
 pub use notes::Notes;
 pub use progress::Progress;
 pub use refusals::NotesRefusal;
-pub use task_number::TaskNumber;
+pub use task_number::{TaskKind, TaskNumber};

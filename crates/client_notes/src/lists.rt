@@ -8,11 +8,11 @@ ghost use Rattle.client_notes.specs.Answers.{noted_of};
 ghost use Rattle.client_notes.specs.Applied.{IsPlaceOf, taken_back};
 ghost use Rattle.client_notes.specs.Command.{acked, after, forgot, got, is_allowed, numbered, refused};
 ghost use Rattle.client_notes.specs.Limits.{longest_file, most_tasks};
-ghost use Rattle.client_notes.specs.Notes.{got_of, is_file_of, is_of_file, last_task as number_of_last_task, no_notes, place_from_end as place_of_last_task, task_count as count_of_tasks, task_of};
+ghost use Rattle.client_notes.specs.Notes.{got_file_at, got_of, is_file_of, is_of_file, last_task as number_of_last_task, no_notes, place_from_end as place_of_last_task, task_count as count_of_tasks, task_of};
 
 use crate::limits::{LONGEST_FILE, MOST_TASKS};
 use crate::task::{StoredGot, StoredTask};
-use crate::{Begun, Noted, NotesRefusal, Progress, TaskNumber};
+use crate::{Begun, Got, Noted, NotesRefusal, Progress, TaskNumber};
 use px_base::{Call, FileNumber, OutOfMemory};
 use std::alloc::Global;
 use std::marker::Model;
@@ -183,6 +183,16 @@ impl Lists {
         match self.got_file(server, number) {
             Some(file) => file.octets(),
             None => &[],
+        }
+    }
+
+    /// The got file at this place.
+    pub(crate) fn got_at(&self, place: u64) -> Option<Got>
+        ensures { result ≡ got_file_at self.now place }
+    {
+        match self.got.get(place as usize) {
+            Some(file) => Some(file.told()),
+            None => None,
         }
     }
 

@@ -7,12 +7,14 @@ ghost use Rattle.client_notes.specs.Answers.{start_reaches};
 ghost use Rattle.client_notes.specs.Command.{acked, forgot, got, is_allowed, numbered, refused};
 ghost use Rattle.client_notes.specs.Commands.{command_value};
 ghost use Rattle.client_notes.specs.Limits.{longest_file, most_tasks};
-ghost use Rattle.client_notes.specs.Notes.{got_of, task_count};
+ghost use Rattle.client_notes.specs.Notes.{got_file_at, got_of, task_count};
 ghost use Rattle.client_notes.specs.OnDisk.{Answers, Does, Untouched};
 ghost use Rattle.client_notes.specs.Noting.{takes_none};
-ghost use Rattle.client_notes.specs.Records.{IsWritable};
+ghost use Rattle.client_notes.specs.Records.{IsWritable, notes_magic};
 ghost use Rattle.client_notes.specs.Recovery.{AnswersRecovery, IsRecovered};
 ghost use Rattle.client_notes.specs.State.{IsRead, StandsOn};
+ghost use Rattle.file_journal.specs.Recovery.{RecoversInCalls};
+ghost use Rattle.file_journal.specs.declared.layout.Layout.TheVariants as Layout;
 
 use crate::changes::{Brought, Direct};
 use crate::command::Command;
@@ -20,7 +22,7 @@ use crate::limits::{LONGEST_FILE, MOST_TASKS};
 use crate::lists::Lists;
 use crate::noted_lists::NotedLists;
 use crate::task::StoredTask;
-use crate::{Begun, Noted, NotesRefusal, StoreFault, TaskNumber};
+use crate::{Begun, Got, Noted, NotesRefusal, StoreFault, TaskNumber};
 use disk_model::Disk;
 use file_journal::{JournalFault, Kept};
 use px_base::{Call, FileNumber};
@@ -51,7 +53,8 @@ impl Model for Notes {
 
 impl Notes {
     /// Recovers the notes from whatever a crash, a fault or a killed program left on the disk: those that its content
-    /// stands for. It syncs before it reads. A disk of at most 16 octets is formatted; one whose formatting was
+    /// stands for. It syncs before it reads, and makes no other write or sync on formatted notes; six more at most,
+    /// where the formatting is to be done. A disk of at most 16 octets is formatted; one whose formatting was
     /// interrupted is formatted to its end. It may be cut at any of its writes and syncs, and is then done again. The
     /// work is that of the records. Takes memory.
     ///
@@ -62,6 +65,7 @@ impl Notes {
 
         // Each refusal has its exact cause; and what a crash at any moment leaves.
         ensures answers { AnswersRecovery D.Disk result disk.old disk.new }
+        ensures calls { RecoversInCalls D.Disk notes_magic Layout.Growing 1 disk.old disk.new }
     {
         let kept = Kept::recover(alloc, disk, BLOCKS)?;
         Ok(Notes { kept })
@@ -294,6 +298,15 @@ impl Notes {
         ensures most { length result.now ≤ longest_file }
     {
         self.lists().got(server, number)
+    }
+
+    /// The got file at this place, counted from 0 in the order in which the first octets of each came; one that was
+    /// forgotten is left out, and stands at the end once octets of it come again. `None` exactly past the last. It looks
+    /// at no octet. Takes no memory.
+    pub fn got_at(&self, place: u64) -> Option<Got>
+        ensures { result ≡ got_file_at self.now.lists place }
+    {
+        self.lists().got_at(place)
     }
 
     /// How the last task of this server, caller and name stands; `None` exactly where there is no such task. Takes no

@@ -4,11 +4,11 @@ ghost use Rattle.std.specs.Prelude.{◌≡◌, ◌+◌, ◌≤◌, length, IfOk,
 ghost use Rattle.client_notes.specs.Applied.{cut_to};
 ghost use Rattle.client_notes.specs.Command.{got_file, new_task, with_octets};
 ghost use Rattle.client_notes.specs.Limits.{longest_file};
-ghost use Rattle.client_notes.specs.Notes.{is_file_of, is_of_file, is_task_for};
+ghost use Rattle.client_notes.specs.Notes.{is_file_of, is_of_file, is_task_for, told_got};
 ghost use Rattle.client_notes.specs.declared.progress.Progress.TheVariants as progress;
 
-use crate::Progress;
 use crate::limits::LONGEST_FILE;
+use crate::{Got, Progress};
 use arrayvec::ArrayVec;
 use px_base::{Call, FileNumber, OutOfMemory};
 use std::alloc::Global;
@@ -178,6 +178,17 @@ impl StoredGot {
         ensures fits { length result.now ≤ longest_file }
     {
         self.octets.as_slice()
+    }
+
+    /// What is told of it.
+    pub(crate) fn told(&self) -> Got
+        ensures { result ≡ told_got self.now }
+    {
+        Got {
+            server: self.server,
+            number: self.number,
+            length: self.octets.len() as u32,
+        }
     }
 
     /// Puts octets behind the others, or changes nothing where there is no memory. Takes memory.
