@@ -4,7 +4,7 @@ use Rattle.clap.specs.Matches.{first_value, found_of}
 use Rattle.clap.specs.declared.parser.matches.ArgMatches.{ArgMatches}
 use Rattle.clap.proofs.WalkLemmas.{first_value-rows}
 use Rattle.command_words.specs.declared.request.Refusal.{Refusal}
-use Rattle.command_words.proofs.Names.{slice_get, AllByRecursion, String, first_of, rows_of, App, HasMatchesOf, matches_of, with_rule, takes, fault_of, is_simple_and_free, client_options, Line, body_app, IsFound, IsLine, are_apart, client_app, client_places, command_of, drawn_app, fetch_app, fetch_places, make_app, serve_app, session_app, make_options, rehearse_options, serve_options, session_options}
+use Rattle.command_words.proofs.Names.{slice_get, AllByRecursion, String, first_of, rows_of, App, HasMatchesOf, matches_of, takes, fault_of, is_simple_and_free, client_options, Line, body_app, IsFound, IsLine, are_apart, client_app, client_places, command_of, drawn_app, fetch_app, fetch_places, make_app, serve_app, session_app, make_options, rehearse_options, serve_options, session_options}
 use Rattle.command_words.proofs.Uses.{Text, Uses, values}
 use Rattle.command_words.proofs.Machine.{is_name-from}
 use Rattle.command_words.proofs.Rules.{AreApart, rows}

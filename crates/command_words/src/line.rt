@@ -1,6 +1,6 @@
 //! The words from COMMAND on, read with `clap`.
 
-ghost use Rattle.std.specs.Prelude.{◌≡◌, List, [], ◌∷◌, false, IfOk, codes, drop, map, option_copied, string_bytes};
+ghost use Rattle.std.specs.Prelude.{◌≡◌, [], ◌∷◌, false, IfOk, drop, map, option_copied, string_bytes};
 ghost use Rattle.clap.specs.Words.{app_of, kind_of, rule_of, with_rule};
 ghost use Rattle.command_words.specs.Grammar.{Line};
 ghost use Rattle.command_words.specs.Lines.{BodyLine, DrawnLine, FindsLine, MakeLine, RefusesLine, ServeLine};

@@ -1,9 +1,9 @@
 -- The walk over tokens: what it finds is there, and what is there is found.
-use Rattle.std.proofs.Common.{◌≡◌, ◌≢◌, ℕ, zero, suc, ◌+◌, ◌-◌, ◌<◌, ◌≤◌, List, [], ◌∷◌, ◌++◌, length, drop, get_or, Option, Some, None, Result, Ok, Err, refl, sym, ap, ◌∙◌, subst, arith, length-append, append_assoc, append-nil, lit<}
+use Rattle.std.proofs.Common.{◌≡◌, ◌≢◌, ℕ, zero, suc, ◌+◌, ◌-◌, ◌<◌, ◌≤◌, List, [], ◌∷◌, ◌++◌, length, drop, get_or, Option, Some, Result, Ok, Err, refl, sym, ap, ◌∙◌, subst, arith, length-append, append_assoc, append-nil, lit<}
 use Rattle.selection.specs.Laws.{IsOneTree, IsOneFault, ReadsBack}
-use Rattle.selection.proofs.Names.{IsOk, result_unwrap_or, drop_at, All-drop, IsOctets, SelFault, Empty, Many, BadOp, Cut, Few, Left, EqualTo, Operator, And, Or, Not, TokenFault, Unknown, Ended, ComparisonValue, Tree, Compare, NotOf, AndOf, OrOf, IsTree, Postfix, AreTrees, comparison_text, operator_octet, operands_of, tree_text, trees_text, tokens_of, tokens_of_trees, most_tokens, TreesThen, FoundAt, FirstFault, StartsUnknown, StartsCut, StartsLacking, TokenValue, Comparing, Operating, token_len, token_in, operated, trees_after, fault_at, with_trees, step_by, go_on, trees_from, one_of, tree_in, tree_of}
+use Rattle.selection.proofs.Names.{IsOk, result_unwrap_or, drop_at, All-drop, IsOctets, SelFault, Empty, Many, BadOp, Cut, Few, Left, EqualTo, Operator, And, Or, Not, TokenFault, Unknown, Ended, ComparisonValue, Tree, Compare, NotOf, AndOf, OrOf, IsTree, Postfix, AreTrees, comparison_text, operator_octet, operands_of, tree_text, trees_text, tokens_of, tokens_of_trees, most_tokens, TreesThen, FirstFault, TokenValue, Comparing, Operating, token_len, token_in, operated, with_trees, step_by, go_on, trees_from, one_of, tree_in, tree_of}
 use Rattle.selection.proofs.StepLemmas.{left_fault, no_operands}
-use Rattle.selection.proofs.TokenLemmas.{token_text, IsToken, TokenAt, length-token_text, token_found, token_in-comparison, token_in-operator, token_in-unknown, token_in-cut}
+use Rattle.selection.proofs.TokenLemmas.{token_text, TokenAt, length-token_text, token_found, token_in-comparison, token_in-operator, token_in-unknown, token_in-cut}
 
 abbrev IsOctet : ℕ → Type 0
 IsOctet octet = octet < 256

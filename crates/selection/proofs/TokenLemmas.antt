@@ -1,8 +1,7 @@
 -- The token at the front of octets.
-use Rattle.std.proofs.Common.{◌≡◌, ◌≢◌, ℕ, ◌+◌, ◌*◌, ◌/◌, ◌%◌, ◌<◌, ◌≤◌, ◌==◌, List, [], ◌∷◌, ◌++◌, length, take, drop, slice_index, get_or, Bool, true, false, cond, ◌⊎◌, inl, inr, Option, Some, None, Result, Ok, Err, refl, sym, ap, ◌∙◌, subst, arith, length-append}
-use Rattle.px_base.specs.Numbers.{le16}
+use Rattle.std.proofs.Common.{◌≡◌, ℕ, ◌+◌, ◌*◌, ◌/◌, ◌%◌, ◌<◌, ◌≤◌, ◌==◌, List, [], ◌∷◌, ◌++◌, length, take, drop, slice_index, Bool, true, false, cond, inl, inr, Option, Some, None, Result, Ok, Err, refl, sym, ap, ◌∙◌, subst, arith, length-append}
 use Rattle.selection.specs.declared.token.Relation.{Relation}
-use Rattle.selection.proofs.Names.{nat_le, le-leb, leb-true, lt-leb, leb-false, eqb-true, eq-eqb, both_ways, cases_Bool, false≢true, take_at, drop_at, drop-drop, take-append-drop, length-take-le, All-take, All-drop, IsOctets, EqualTo, NotEqualTo, LessThan, AtMost, GreaterThan, AtLeast, Operator, And, Or, Not, TokenFault, Unknown, Ended, ComparisonValue, IsComparison, relation_octet, operator_octet, comparison_text, IsUnknown, StartsUnknown, StartsCut, TokenValue, Comparing, Operating, token_len, relation_of, operator_of, comparison_in, read_comparison, read_operator, read_as, token_in}
+use Rattle.selection.proofs.Names.{nat_le, le-leb, leb-true, leb-false, eqb-true, eq-eqb, both_ways, cases_Bool, take_at, drop-drop, take-append-drop, length-take-le, All-take, All-drop, IsOctets, EqualTo, NotEqualTo, LessThan, AtMost, GreaterThan, AtLeast, Operator, And, Or, Not, TokenFault, Unknown, Ended, ComparisonValue, IsComparison, relation_octet, operator_octet, comparison_text, StartsUnknown, StartsCut, TokenValue, Comparing, Operating, token_len, relation_of, operator_of, comparison_in, read_comparison, read_operator, read_as, token_in}
 
 abbrev IsOctet : ℕ → Type 0
 IsOctet octet = octet < 256

@@ -1,5 +1,5 @@
 -- Which operands hold after each token.
-use Rattle.std.proofs.Common.{◌≡◌, ℕ, zero, suc, ◌+◌, ◌-◌, ◌<◌, ◌≤◌, List, [], ◌∷◌, ◌++◌, length, take, drop, Bool, Option, Some, None, Result, Ok, Err, refl, sym, ap, subst, ◌∙◌, arith, length-append}
+use Rattle.std.proofs.Common.{◌≡◌, ℕ, zero, suc, ◌+◌, ◌-◌, ◌<◌, ◌≤◌, List, [], ◌∷◌, length, take, drop, Bool, Option, Some, None, Result, Ok, Err, refl, sym, ap, subst, ◌∙◌, arith, length-append}
 use Rattle.pfh_items.specs.Layout.{ItemValue}
 use Rattle.selection.proofs.Names.{IsOk, result_unwrap_or, drop-drop, take_rest, SelFault, Token, Operator, And, Or, Not, TokenFault, Tree, Compare, NotOf, AndOf, OrOf, operands_of, holds, TokenValue, Comparing, Operating, token_len, token_in, operated, trees_after, with_trees, step_by, go_on, trees_from, one_of, tree_in, ReadsAs, token_value, operands_needed, tree_of, truths_of}
 use Rattle.selection.proofs.StepLemmas.{none_left, nonempty, ended}

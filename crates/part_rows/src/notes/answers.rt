@@ -1,7 +1,7 @@
 //! The answers of notes, as they are shown.
 
 use anyhow::Result;
-use client_notes::{Begun, Noted, NotesRefusal};
+use client_notes::{Begun, Got, Noted, NotesRefusal};
 use row_words::text_of;
 use std::alloc::Global;
 use std::fmt::Debug;
@@ -64,4 +64,13 @@ pub fn shown_noted(alloc: Global, noted: Option<Noted>) -> Result<String> {
             )
         }
     }
+}
+
+/// What is told of a got file, if there is one at the place.
+pub fn shown_got(alloc: Global, got: Option<Got>) -> Result<String> {
+    let Some(got) = got else {
+        return text_of(alloc, "None");
+    };
+    let (server, number, length) = (got.server, got.number.get(), got.length);
+    text_of(alloc, format_args!("Some({server} {number} {length})"))
 }

@@ -2,7 +2,7 @@
 
 ghost use Rattle.client_notes.specs.State.{StandsOn};
 
-use crate::notes::answers::{shown, shown_begun, shown_noted};
+use crate::notes::answers::{shown, shown_begun, shown_got, shown_noted};
 use crate::notes::task::unfinished;
 use crate::parts::Parts;
 use anyhow::{Context, Result, bail, ensure};
@@ -51,6 +51,7 @@ fn make_call<D: Disk>(alloc: Global, disk: &mut D, notes: &mut Notes, call: &str
         "noted" => noted(alloc, notes, words),
         "got_len" => got_len(alloc, notes, words),
         "read_got" => read_got(alloc, notes, words),
+        "got_at" => got_at(alloc, notes, words),
         _ => bail!("no call of notes"),
     }
 }
@@ -207,4 +208,12 @@ fn read_got(alloc: Global, notes: &Notes, words: &[&str]) -> Result<String> {
     room.resize(count as usize, 0)?;
     notes.read_got(server, number, at, room.as_mut_slice());
     hex_text(alloc, room.as_slice())
+}
+
+/// `got_at PLACE`
+fn got_at(alloc: Global, notes: &Notes, words: &[&str]) -> Result<String> {
+    let [place] = words else {
+        bail!("no place");
+    };
+    shown_got(alloc, notes.got_at(place.parse::<u64>()?))
 }
