@@ -1,5 +1,7 @@
+pub mod Attempts
 pub mod Cuts
 pub mod Events
+pub mod Files
 pub mod Headline
 pub mod Lawful
 pub mod Laws

@@ -4,8 +4,8 @@ ghost use Rattle.air_world.specs.Laws.{CutsLaw, ExistenceLaw, NoCutsLaw, PartsLa
 ghost use Rattle.air_world.specs.Laws.{ScheduleLaw, SoundLaw, StoresLaw};
 ghost use Rattle.air_world.specs.StationLaws.{StationLaws};
 
-use crate::attempts::laws as attempts;
-use crate::files::laws as files;
+use crate::attempts;
+use crate::files;
 use file_store_model::laws::follows_law;
 use ftl0_client::attempt::laws::stands_law;
 use ftl0_client::laws as client;

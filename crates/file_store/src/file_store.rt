@@ -9,6 +9,7 @@ ghost use Rattle.disk_model.specs.Disk.{FillsRoom};
 ghost use Rattle.file_journal.specs.Bounds.{RecoversInHalves};
 ghost use Rattle.disk_model.specs.Runs.{Leaves, Reads, Runs, TakesStep};
 ghost use Rattle.file_journal.specs.Journal.{HasGoodHeader, IsAfterRecovery, journal_of};
+ghost use Rattle.file_journal.specs.Recovery.{RecoversInCalls};
 ghost use Rattle.file_store_model.specs.Command.{after, after_all, begin, drop_entry, grow, last_grow, seal};
 ghost use Rattle.file_store_model.specs.Command.{unfilled_block, whole_grows};
 ghost use Rattle.file_store_model.specs.Faults.{fault_code};
@@ -123,6 +124,9 @@ impl FileStore {
 
         // Nothing is written past the end of the store whose block number the disk has, or gets.
         ensures within { RecoversInHalves D.Disk store_layout limits.blocks disk.old disk.new }
+
+        // It makes seven writes and syncs at most, and its first sync alone if the store is formatted or refused.
+        ensures calls { RecoversInCalls D.Disk store_magic store_layout limits.blocks disk.old disk.new }
     {
         let kept = Kept::recover(alloc, disk, limits.blocks)?;
         // After the recovery, so that a crash finds the disk synced also if there is no memory for it.

@@ -1,6 +1,7 @@
 pub mod Anew
 pub mod AnewLaws
 pub mod Applied
+pub mod BlockTable
 pub mod CallLaws
 pub mod Checking
 pub mod FilesLaws

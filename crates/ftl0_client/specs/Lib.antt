@@ -8,6 +8,7 @@ pub mod Going
 pub mod Inside
 pub mod Laws
 pub mod Outcomes
+pub mod StepLaws
 pub use Rattle.ax25_link.specs.Window
 pub use Rattle.ftl0_client_job.specs.Directory
 pub use Rattle.ftl0_client_job.specs.Download

@@ -10,6 +10,7 @@ pub mod ServerState
 pub mod ServerStep
 pub mod Serving
 pub mod Slots
+pub mod StepLaws
 pub use Rattle.ax25_link.specs.Calls as LinkCalls
 pub use Rattle.ax25_link.specs.Ends
 pub use Rattle.ax25_link.specs.Rows

@@ -6,7 +6,7 @@ ghost use Rattle.file_store_blocks.specs.BlockTable.Table.{HasRoom, IsFree, IsLo
 ghost use Rattle.file_store_blocks.specs.BlockTable.Table.{after_beginning, after_taking, left_in, new_table, run_at};
 ghost use Rattle.file_store_blocks.specs.BlockTable.Table.{without};
 
-use crate::marks::{RunMark, first_free, free_blocks, move_up};
+use crate::block_table::marks::{RunMark, first_free, free_blocks, move_up};
 use px_base::OutOfMemory;
 use std::alloc::Global;
 use std::marker::Model;

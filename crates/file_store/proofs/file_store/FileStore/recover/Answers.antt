@@ -10,3 +10,12 @@ returns-in_err-kept-clause-refuses g c =
 
 pub returns-in_err-header-clause-memory : goal.returns-in_err-header-clause-memory
 returns-in_err-header-clause-memory g c is = recovered_good g.D.Disk c.args.limits.blocks (g.D.Disk.content c.args.disk.now) _ c.in_ok-kept.ensures.restored.content
+
+pub returns-clause-calls : goal.returns-clause-calls
+returns-clause-calls g c = c.recover.ensures.calls
+
+pub returns-in_err-kept-clause-calls : goal.returns-in_err-kept-clause-calls
+returns-in_err-kept-clause-calls g c = c.recover.ensures.calls
+
+pub returns-in_err-header-clause-calls : goal.returns-in_err-header-clause-calls
+returns-in_err-header-clause-calls g c = c.recover.ensures.calls
