@@ -6,7 +6,6 @@ pub mod Drawn
 pub mod Driving
 pub mod Ending
 pub mod Generator
-pub mod Halfway
 pub mod LaneCalls
 pub mod LaneLaws
 pub mod Lanes

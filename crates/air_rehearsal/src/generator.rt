@@ -9,7 +9,7 @@ ghost use Rattle.air_schedule.specs.Events.{event_value};
 ghost use Rattle.air_world.specs.Sound.{Sound};
 ghost use Rattle.air_world.specs.World.{World};
 ghost use Rattle.air_rehearsal.specs.Drawn.{drawn_calls, rounds};
-ghost use Rattle.air_rehearsal.specs.Driving.{Drives, IsDraw, IsFitEvent, IsReadyBench, StopsDrawn, StopsDriving};
+ghost use Rattle.air_rehearsal.specs.Driving.{Drives, IsDraw, IsFitEvent, IsReadyBench};
 ghost use Rattle.air_rehearsal.specs.Driving.{delivery_of, driven_by};
 ghost use Rattle.air_rehearsal.specs.Generator.{Answers, Carries, DrivenBy, Exchange, IsClosed, TriesIf, TriesTimes};
 ghost use Rattle.air_rehearsal.specs.Generator.{Turn, TurnExchanges, Turns, attempts_of as attempts_in, between};
@@ -183,10 +183,9 @@ struct Driver {
 /// delivered twice or delivered late, until the client is done, or has had 20 exchanges. At the end it may be broken
 /// off, or a cut of its power or the server's may wait for the next event.
 ///
-/// One clause says of the report what [`rehearse`] says of a schedule, and that the schedule's events are those which
-/// the number draws. Where memory was wanting the other one says of some schedule for the same clients what
-/// [`rehearse`] says then. Both hold where the count of the server's disk's failed writes doesn't stand at its last
-/// number at the end.
+/// The clause says of the report what [`rehearse`] says of a schedule, and that the schedule's events are those which
+/// the number draws. It holds if the count of the server's disk's failed writes doesn't stand at its last number at the
+/// end. After `OutOfMemory` nothing is said of the disks.
 ///
 /// [`rehearse`]: crate::rehearse
 pub fn drive<B: CutDisk>(
@@ -199,8 +198,6 @@ pub fn drive<B: CutDisk>(
     ensures driven { IfOk result (λ report. CanTell B.Disk bench.new.items →
         DrivenBy B.Disk (cuts_by B.restarts B.arming B.plain B.is_starved) seed count bench.old.items bench.new.items
         report) }
-    ensures wants_memory { OnErr result (CanTell B.Disk bench.new.items →
-        StopsDrawn B.Disk (cuts_by B.restarts B.arming B.plain B.is_starved) bench.old.items bench.new.items) }
 {
     let Some((disk, disks)) = bench.as_mut_slice().split_first_mut() else {
         return Err(OutOfMemory);
@@ -220,9 +217,6 @@ fn drive_over<B: CutDisk>(
     ensures driven { IfOk result (λ report. CanTell B.Disk (disk.new ∷ disks.new) →
         DrivenBy B.Disk (cuts_by B.restarts B.arming B.plain B.is_starved) seed count (disk.old ∷ disks.old)
         (disk.new ∷ disks.new) report) }
-    ensures wants_memory { OnErr result (CanTell B.Disk (disk.new ∷ disks.new) →
-        StopsDrawn B.Disk (cuts_by B.restarts B.arming B.plain B.is_starved) (disk.old ∷ disks.old)
-        (disk.new ∷ disks.new)) }
 {
     sound_law();
     parts_law();
@@ -277,8 +271,6 @@ impl Driver {
         ensures drives { IfOk result (λ later. Drives B.Disk (cuts_by B.restarts B.arming B.plain B.is_starved)
             (Turns (rounds count)) (driven_by self.old server disk.old disks.old)
             (driven_by self.new later disk.new disks.new)) }
-        ensures stops { OnErr result (StopsDriving B.Disk (cuts_by B.restarts B.arming B.plain B.is_starved)
-            (bench_of self.old.stations server disk.old disks.old) disk.new disks.new) }
     {
         let mut server = server;
         for _ in 0..count {
@@ -298,8 +290,6 @@ impl Driver {
         ensures drives { IfOk result (λ later. Drives B.Disk (cuts_by B.restarts B.arming B.plain B.is_starved)
             (Turns (rounds 1)) (driven_by self.old server disk.old disks.old)
             (driven_by self.new later disk.new disks.new)) }
-        ensures stops { OnErr result (StopsDriving B.Disk (cuts_by B.restarts B.arming B.plain B.is_starved)
-            (bench_of self.old.stations server disk.old disks.old) disk.new disks.new) }
     {
         let server = self.turn(server, disk, disks, 1)?;
         let server = self.turn(server, disk, disks, 2)?;
@@ -318,8 +308,6 @@ impl Driver {
         ensures drives { IfOk result (λ later. Drives B.Disk (cuts_by B.restarts B.arming B.plain B.is_starved)
             (Turn client) (driven_by self.old server disk.old disks.old)
             (driven_by self.new later disk.new disks.new)) }
-        ensures stops { OnErr result (StopsDriving B.Disk (cuts_by B.restarts B.arming B.plain B.is_starved)
-            (bench_of self.old.stations server disk.old disks.old) disk.new disks.new) }
     {
         let wish = self.wish(client);
         let server = self.play(server, disk, disks, wish)?;
@@ -341,8 +329,6 @@ impl Driver {
         ensures drives { IfOk result (λ later. Drives B.Disk (cuts_by B.restarts B.arming B.plain B.is_starved)
             (TriesIf (option_map event_value event)) (driven_by self.old server disk.old disks.old)
             (driven_by self.new later disk.new disks.new)) }
-        ensures stops { OnErr result (StopsDriving B.Disk (cuts_by B.restarts B.arming B.plain B.is_starved)
-            (bench_of self.old.stations server disk.old disks.old) disk.new disks.new) }
     {
         let Some(event) = event else {
             return Ok(server);
@@ -392,8 +378,6 @@ impl Driver {
         ensures drives { IfOk result (λ later. Drives B.Disk (cuts_by B.restarts B.arming B.plain B.is_starved)
             (TurnExchanges client) (driven_by self.old server disk.old disks.old)
             (driven_by self.new later disk.new disks.new)) }
-        ensures stops { OnErr result (StopsDriving B.Disk (cuts_by B.restarts B.arming B.plain B.is_starved)
-            (bench_of self.old.stations server disk.old disks.old) disk.new disks.new) }
     {
         let mut server = server;
         let mut looked = Looked::none(&self.stations, client);
@@ -421,8 +405,6 @@ impl Driver {
         ensures drives { IfOk result (λ later. Drives B.Disk (cuts_by B.restarts B.arming B.plain B.is_starved)
             (Exchange client looked.old looked.new) (driven_by self.old server disk.old disks.old)
             (driven_by self.new later disk.new disks.new)) }
-        ensures stops { OnErr result (StopsDriving B.Disk (cuts_by B.restarts B.arming B.plain B.is_starved)
-            (bench_of self.old.stations server disk.old disks.old) disk.new disks.new) }
     {
         let before = *looked;
         looked.to_server = count_to_server(&self.stations, client);
@@ -462,8 +444,6 @@ impl Driver {
         ensures drives { IfOk result (λ later. Drives B.Disk (cuts_by B.restarts B.arming B.plain B.is_starved)
             (Answers client [] []) (driven_by self.old server disk.old disks.old)
             (driven_by self.new later disk.new disks.new)) }
-        ensures stops { OnErr result (StopsDriving B.Disk (cuts_by B.restarts B.arming B.plain B.is_starved)
-            (bench_of self.old.stations server disk.old disks.old) disk.new disks.new) }
     {
         let server = self.play(server, disk, disks, Some(Event::TickClient { client }))?;
         self.play(server, disk, disks, Some(Event::TickServer))
@@ -484,8 +464,6 @@ impl Driver {
         ensures drives { IfOk result (λ later. Drives B.Disk (cuts_by B.restarts B.arming B.plain B.is_starved)
             (Carries (delivery_of way client) None (between from to)) (driven_by self.old server disk.old disks.old)
             (driven_by self.new later disk.new disks.new)) }
-        ensures stops { OnErr result (StopsDriving B.Disk (cuts_by B.restarts B.arming B.plain B.is_starved)
-            (bench_of self.old.stations server disk.old disks.old) disk.new disks.new) }
     {
         let mut server = server;
         let mut late = None;
@@ -515,8 +493,6 @@ impl Driver {
         ensures drives { IfOk result (λ later. Drives B.Disk (cuts_by B.restarts B.arming B.plain B.is_starved)
             (TriesTimes times (delivery_of way client (place + 1))) (driven_by self.old server disk.old disks.old)
             (driven_by self.new later disk.new disks.new)) }
-        ensures stops { OnErr result (StopsDriving B.Disk (cuts_by B.restarts B.arming B.plain B.is_starved)
-            (bench_of self.old.stations server disk.old disks.old) disk.new disks.new) }
     {
         let mut server = server;
         for _ in 0..times {

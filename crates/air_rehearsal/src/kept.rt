@@ -13,7 +13,6 @@ ghost use Rattle.air_world.specs.Sound.{Sound};
 ghost use Rattle.air_world.specs.World.{World, store_blocks};
 ghost use Rattle.air_rehearsal.specs.Counting.{EndsSo};
 ghost use Rattle.air_rehearsal.specs.Ending.{CountsAcked, IsAtEnd, IsStampedFor, IsUpload, LooksOnly, moment_in};
-ghost use Rattle.air_rehearsal.specs.Halfway.{TriesToStart};
 ghost use Rattle.air_rehearsal.specs.Report.{all_tasks, tasks_of};
 ghost use Rattle.air_rehearsal.specs.Standing.{StandsNow};
 ghost use Rattle.air_rehearsal.specs.Stations.{the_server};
@@ -42,7 +41,7 @@ impl Stations {
         ensures ends { IfOk result (λ report. (world : World) → Sound world → PlaysStations self.now world
             → world.server.store.blocks ≡ store_blocks → StandsNow D.Disk the_server world disk.old
             → EndsSo D.Disk world self.now.report disk.old disk.new report) }
-        ensures tries { TriesToStart D.Disk the_server disk.old disk.new }
+        ensures lasts { D.lasts disk.old disk.new }
     {
         let mut report = self.report;
         let Ok(store) = FileStore::recover(self.alloc, disk, LIMITS) else {

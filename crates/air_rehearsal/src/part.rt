@@ -6,7 +6,6 @@ ghost use Rattle.client_notes.specs.Notes.{task_count};
 ghost use Rattle.air_world.specs.Events.{ClientPart, ClientTakes};
 ghost use Rattle.air_world.specs.Lawful.{IsAllowed};
 ghost use Rattle.air_world.specs.Schedule.{Event};
-ghost use Rattle.air_rehearsal.specs.Halfway.{StopsCutPart, StopsPart};
 ghost use Rattle.air_rehearsal.specs.PartCalls.{ActsPart, BeCut, BeginsPart, KeepsOthers, TouchesPart};
 ghost use Rattle.air_rehearsal.specs.PartCalls.{uploads_by};
 ghost use Rattle.air_rehearsal.specs.Ready.{IsReadyParty, IsTheirs, KeepsParty, MayDo};
@@ -109,9 +108,6 @@ impl Party {
             → IsSteady B.Disk (cuts_by B.restarts B.arming B.plain B.is_starved) disk.old
             → TakesPart B.Disk (cuts_by B.restarts B.arming B.plain B.is_starved) whole self.old self.new
             disk.old disk.new) }
-        ensures stops { (seat : Seat) (whole : ClientPart) → IsSeat self.old seat → IsPart seat part whole
-            → StopsPart B.Disk (cuts_by B.restarts B.arming B.plain B.is_starved) self.old.cut whole
-            disk.old disk.new }
     {
         match self.cut {
             Some(cut) => self.be_cut(alloc, disk, part, cut)?,
@@ -131,8 +127,6 @@ impl Party {
         ensures acts { OnOk result ((seat : Seat) (event : Event) (whole : ClientPart) → IsSeat self.old seat
             → IsAllowed seat.world event → ClientTakes seat.world event seat.c whole → IsPart seat part whole
             → self.old.cut ≡ None → ActsPart D.Disk whole self.old self.new disk.old disk.new) }
-        ensures carries { (seat : Seat) (whole : ClientPart) → IsSeat self.old seat
-            → IsPart seat part whole → CarriesPart D.Disk whole disk.old disk.new }
     {
         sound_law();
         self.do_part(alloc, disk, part)?;
@@ -151,8 +145,6 @@ impl Party {
         ensures theirs { OnOk result (IsTheirs D.Disk self.new disk.new) }
         ensures begins { OnOk result ((seat : Seat) (whole : ClientPart) → IsSeat self.old seat
             → IsPart seat part whole → BeginsPart D.Disk whole self.old self.new disk.old disk.new) }
-        ensures carries { (seat : Seat) (whole : ClientPart) → IsSeat self.old seat
-            → IsPart seat part whole → CarriesPart D.Disk whole disk.old disk.new }
     {
         match part {
             Part::Upload { upload, file } => self.ask_upload(alloc, disk, upload, file),
@@ -186,9 +178,6 @@ impl Party {
             → IsSteady B.Disk (cuts_by B.restarts B.arming B.plain B.is_starved) disk.old
             → BeCut B.Disk (cuts_by B.restarts B.arming B.plain B.is_starved) cut.call whole self.new
             disk.old disk.new) }
-        ensures stops { (seat : Seat) (whole : ClientPart) → IsSeat self.old seat → IsPart seat part whole
-            → StopsCutPart B.Disk (cuts_by B.restarts B.arming B.plain B.is_starved) cut.call whole
-            disk.old disk.new }
     {
         armed_law::<B>();
         cut.arm(disk);

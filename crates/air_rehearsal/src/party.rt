@@ -17,7 +17,6 @@ ghost use Rattle.ftl0_job.specs.declared.work.Work.TheVariants as work;
 ghost use Rattle.node.specs.Events.{IsFor};
 ghost use Rattle.air_world.specs.Events.{ClientPart, DeliversToClient, asking, part_with};
 ghost use Rattle.air_world.specs.Lawful.{IsFree as IsFreeParty};
-ghost use Rattle.air_rehearsal.specs.Halfway.{TriesToStart};
 ghost use Rattle.air_rehearsal.specs.Lanes.{HasLanes, Lanes};
 ghost use Rattle.air_rehearsal.specs.PartCalls.{BeginsPart, HasTaskOf, KeepsButNotes, KeepsOthers, Restarts, SaysAll};
 ghost use Rattle.air_rehearsal.specs.PartCalls.{StartsTask, TouchesPart, uploads_then};
@@ -68,7 +67,6 @@ impl Party {
         requires { IsGoodK k }
         ensures ready { IfOk result (λ party. IsReadyParty D.Disk party disk.new) }
         ensures opens { IfOk result (λ party. IsOpened D.Disk server me k disk.old disk.new party) }
-        ensures tries { (c : ℕ) → TriesToStart D.Disk (client_at c) disk.old disk.new }
     {
         match Notes::recover(alloc, disk) {
             Ok(notes) => Ok(Party {
@@ -96,7 +94,6 @@ impl Party {
             → IsSteady B.Disk (cuts_by B.restarts B.arming B.plain B.is_starved) disk.old
             → BreaksOff B.Disk (cuts_by B.restarts B.arming B.plain B.is_starved) seat self.old self.new disk.old
             disk.new) }
-        ensures tries { (c : ℕ) → TriesToStart B.Disk (client_at c) disk.old disk.new }
     {
         images_law(self.client.notes(), disk);
         self.restart(alloc, disk)?;
@@ -115,7 +112,6 @@ impl Party {
         requires { IsGoodK self.old.k }
         ensures ready { OnOk result (IsReadyParty D.Disk self.new disk.new) }
         ensures restarts { OnOk result (Restarts D.Disk self.old self.new disk.old disk.new) }
-        ensures tries { (c : ℕ) → TriesToStart D.Disk (client_at c) disk.old disk.new }
     {
         match Notes::recover(alloc, disk) {
             Ok(notes) => {
@@ -239,8 +235,6 @@ impl Party {
         ensures theirs { OnOk result (IsTheirs D.Disk self.new disk.new) }
         ensures begins { OnOk result ((seat : Seat) (whole : ClientPart) → IsSeat self.old seat
             → AsksNext seat upload file whole → BeginsPart D.Disk whole self.old self.new disk.old disk.new) }
-        ensures carries { (seat : Seat) (whole : ClientPart) → IsSeat self.old seat → AsksNext seat upload file whole
-            → CarriesPart D.Disk whole disk.old disk.new }
     {
         let Ok(task) = self.start(disk, upload, file.as_slice()) else {
             return Err(OutOfMemory);
@@ -311,7 +305,6 @@ impl Party {
         ensures begins { OnOk result ((seat : Seat) (whole : ClientPart) → IsSeat self.old seat
             → Resumes seat task number file whole
             → BeginsPart D.Disk whole self.old self.new disk.old disk.new) }
-        ensures untouched { disk.new ≡ disk.old }
     {
         if task.get() == 0 {
             return Err(OutOfMemory);
@@ -339,7 +332,6 @@ impl Party {
         ensures begins { OnOk result ((seat : Seat) (whole : ClientPart) → IsSeat self.old seat
             → whole ≡ asking seat.party (work.Directory (new_directory tokens))
             → BeginsPart D.Disk whole self.old self.new _disk.old _disk.new) }
-        ensures untouched { _disk.new ≡ _disk.old }
     {
         self.client.ask(alloc, Job::list(alloc, tokens))?;
         Ok(())
@@ -359,7 +351,6 @@ impl Party {
         ensures begins { OnOk result ((seat : Seat) (whole : ClientPart) → IsSeat self.old seat
             → whole ≡ asking seat.party (work.Download (new_download seat.party.client.server number))
             → BeginsPart D.Disk whole self.old self.new _disk.old _disk.new) }
-        ensures untouched { _disk.new ≡ _disk.old }
     {
         // What is got of a file is no longer than a file may be.
         let _held = self.client.notes().got_len(self.server, number);
@@ -403,7 +394,6 @@ impl Party {
         ensures begins { (seat : Seat) (whole : ClientPart) → IsSeat self.old seat
             → whole ≡ part_with seat.party ticks
             → BeginsPart D.Disk whole self.old self.new _disk.old _disk.new }
-        ensures untouched { _disk.new ≡ _disk.old }
     {
         self.client.tick();
     }

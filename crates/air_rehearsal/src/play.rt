@@ -8,7 +8,6 @@ ghost use Rattle.air_world.specs.Events.{ClientPart};
 ghost use Rattle.air_world.specs.Lawful.{IsAllowed};
 ghost use Rattle.air_world.specs.Schedule.{ask_resume, ask_upload, break_client, cut_client};
 ghost use Rattle.air_world.specs.World.{World, next_moment};
-ghost use Rattle.air_rehearsal.specs.Halfway.{LeavesAt, StopsApart, StopsEvent, StopsPart, TriesToStart};
 ghost use Rattle.air_rehearsal.specs.Playing.{GoesOn, IsBench, IsPlaying, PlaysEvent, bench_of};
 ghost use Rattle.air_rehearsal.specs.Ready.{AreReady, IsReadyServer};
 ghost use Rattle.air_rehearsal.specs.ServerEvents.{CanCount, CountsOn};
@@ -50,12 +49,6 @@ impl Stations {
             → IsAllowed world (event_value event.now)
             → PlaysEvent B.Disk (cuts_by B.restarts B.arming B.plain B.is_starved) world (event_value event.now)
             (bench_of self.old server disk.old disks.old) (bench_of self.new later disk.new disks.new)) }
-        ensures stops { OnErr result ((world : World)
-            → IsPlaying B.Disk (cuts_by B.restarts B.arming B.plain B.is_starved) world
-            (bench_of self.old server disk.old disks.old) → CanCount B.Disk disk.old
-            → IsAllowed world (event_value event.now)
-            → StopsEvent B.Disk (cuts_by B.restarts B.arming B.plain B.is_starved) self.old world
-            (event_value event.now) (disk.old ∷ disks.old) (disk.new ∷ disks.new)) }
     {
         self.count_event();
         self.go(server, disk, disks, event)
@@ -88,12 +81,6 @@ impl Stations {
             → self.old.moment ≡ next_moment world → IsAllowed world (event_value event.now)
             → GoesOn B.Disk (cuts_by B.restarts B.arming B.plain B.is_starved) world (event_value event.now)
             (bench_of self.old server disk.old disks.old) (bench_of self.new later disk.new disks.new)) }
-        ensures stops { OnErr result ((world : World)
-            → IsBench B.Disk (cuts_by B.restarts B.arming B.plain B.is_starved) world
-            (bench_of self.old server disk.old disks.old) → CanCount B.Disk disk.old
-            → self.old.moment ≡ next_moment world → IsAllowed world (event_value event.now)
-            → StopsEvent B.Disk (cuts_by B.restarts B.arming B.plain B.is_starved) self.old world
-            (event_value event.now) (disk.old ∷ disks.old) (disk.new ∷ disks.new)) }
     {
         sound_law();
         match event {
@@ -134,8 +121,6 @@ impl Stations {
         ensures k { self.new.k ≡ self.old.k }
         ensures goes { OnOk result (GoesApart B.Disk (cuts_by B.restarts B.arming B.plain B.is_starved)
             (event_value event.now) (clients_of self.old disks.old) (clients_of self.new disks.new)) }
-        ensures stops { StopsApart B.Disk (cuts_by B.restarts B.arming B.plain B.is_starved)
-            (event_value event.now) (clients_of self.old disks.old) disks.new }
     {
         sound_law();
         match event {
@@ -176,7 +161,6 @@ impl Stations {
         ensures goes { OnOk result (GoesApart B.Disk (cuts_by B.restarts B.arming B.plain B.is_starved)
             (cut_client client cut.call cut.choice) (clients_of self.old _disks.old)
             (clients_of self.new _disks.new)) }
-        ensures untouched { _disks.new ≡ _disks.old }
     {
         sound_law();
         let Some(c) = place_of(client) else {
@@ -197,8 +181,6 @@ impl Stations {
         ensures k { self.new.k ≡ self.old.k }
         ensures goes { OnOk result (GoesApart B.Disk (cuts_by B.restarts B.arming B.plain B.is_starved)
             (break_client client) (clients_of self.old disks.old) (clients_of self.new disks.new)) }
-        ensures tries { (c : ℕ) → client ≡ suc c
-            → LeavesAt c (TriesToStart B.Disk (client_at c)) disks.old disks.new }
     {
         sound_law();
         let alloc = self.alloc;
@@ -226,8 +208,6 @@ impl Stations {
         ensures k { self.new.k ≡ self.old.k }
         ensures goes { OnOk result (GoesApart B.Disk (cuts_by B.restarts B.arming B.plain B.is_starved)
             (event_value event.now) (clients_of self.old disks.old) (clients_of self.new disks.new)) }
-        ensures stops { StopsApart B.Disk (cuts_by B.restarts B.arming B.plain B.is_starved)
-            (event_value event.now) (clients_of self.old disks.old) disks.new }
     {
         sound_law();
         match event {
@@ -252,8 +232,6 @@ impl Stations {
         ensures k { self.new.k ≡ self.old.k }
         ensures goes { OnOk result (GoesApart B.Disk (cuts_by B.restarts B.arming B.plain B.is_starved)
             (ask_upload client octets) (clients_of self.old disks.old) (clients_of self.new disks.new)) }
-        ensures stops { StopsApart B.Disk (cuts_by B.restarts B.arming B.plain B.is_starved)
-            (ask_upload client octets) (clients_of self.old disks.old) disks.new }
     {
         sound_law();
         let (Some(client), Ok(upload)) = (place_of(client), u32::try_from(self.uploads.len()))
@@ -282,11 +260,6 @@ impl Stations {
             (clients_of self.old disks.old) part whole)
             → TookPart B.Disk (cuts_by B.restarts B.arming B.plain B.is_starved) c part whole
             (clients_of self.old disks.old) (clients_of self.new disks.new) may) }
-        ensures stops { (whole : ClientPart) →
-            (may : MayTake B.Disk (cuts_by B.restarts B.arming B.plain B.is_starved) c
-            (clients_of self.old disks.old) part whole)
-            → LeavesAt c (StopsPart B.Disk (cuts_by B.restarts B.arming B.plain B.is_starved) may.seated.party.cut
-            whole) disks.old disks.new }
     {
         let alloc = self.alloc;
         if c >= self.parties.len() || c >= disks.len() {

@@ -2,7 +2,7 @@
 
 ghost use Rattle.std.specs.Prelude.{◌≡◌, ◌∷◌, ℕ, Err, IfOk};
 ghost use Rattle.disk_model.specs.Cuts.{AreFresh, cuts_by};
-ghost use Rattle.air_rehearsal.specs.Rehearsed.{CanTell, IsUnlawful, Rehearsed, WantsMemory};
+ghost use Rattle.air_rehearsal.specs.Rehearsed.{CanTell, IsUnlawful, Rehearsed};
 
 use crate::report::Report;
 use crate::stations::Stations;
@@ -41,10 +41,9 @@ impl From<OutOfMemory> for RehearseStop {
 /// Plays a schedule over nine disks: the server's, and those of the clients in their order. The others stay as they
 /// are. Takes memory.
 ///
-/// `Unlawful` comes where an event may not come, for the first such one. Either way the disks hold what the events
-/// before wrote; and so they do where memory was wanting, but for the disk of the station that took part in the event
-/// under way. A clause on either holds where the count of the server's disk's failed writes doesn't stand at its last
-/// number then.
+/// `Unlawful` comes if an event may not come, for the first such one: the disks hold what the events before it wrote.
+/// After `OutOfMemory` nothing is said of the disks. A clause holds if the count of the server's disk's failed writes
+/// doesn't stand at its last number then.
 pub fn rehearse<B: CutDisk>(
     alloc: Global,
     schedule: &Schedule,
@@ -57,9 +56,6 @@ pub fn rehearse<B: CutDisk>(
     ensures unlawful { (line : ℕ) → result ≡ Err (RehearseStop.Unlawful line) → CanTell B.Disk bench.new.items →
         IsUnlawful B.Disk (cuts_by B.restarts B.arming B.plain B.is_starved) schedule.now bench.old.items
         bench.new.items line }
-    ensures wants_memory { result ≡ Err RehearseStop.OutOfMemory → CanTell B.Disk bench.new.items →
-        WantsMemory B.Disk (cuts_by B.restarts B.arming B.plain B.is_starved) schedule.now bench.old.items
-        bench.new.items }
 {
     let Some((disk, disks)) = bench.as_mut_slice().split_first_mut() else {
         return Err(RehearseStop::OutOfMemory);
@@ -81,9 +77,6 @@ fn rehearse_over<B: CutDisk>(
     ensures unlawful { (line : ℕ) → result ≡ Err (RehearseStop.Unlawful line) → CanTell B.Disk (disk.new ∷ disks.new) →
         IsUnlawful B.Disk (cuts_by B.restarts B.arming B.plain B.is_starved) schedule.now (disk.old ∷ disks.old)
         (disk.new ∷ disks.new) line }
-    ensures wants_memory { result ≡ Err RehearseStop.OutOfMemory → CanTell B.Disk (disk.new ∷ disks.new) →
-        WantsMemory B.Disk (cuts_by B.restarts B.arming B.plain B.is_starved) schedule.now (disk.old ∷ disks.old)
-        (disk.new ∷ disks.new) }
 {
     sound_law();
     parts_law();

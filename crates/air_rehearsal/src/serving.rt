@@ -13,7 +13,6 @@ ghost use Rattle.air_world.specs.Lawful.{IsAllowed};
 ghost use Rattle.air_world.specs.Schedule.{tick_server, to_server};
 ghost use Rattle.air_world.specs.Sound.{Sound};
 ghost use Rattle.air_world.specs.World.{World, next_moment};
-ghost use Rattle.air_rehearsal.specs.Halfway.{StopsBy, StopsCutting};
 ghost use Rattle.air_rehearsal.specs.Ready.{IsReadyServer, IsUp, KeepsAllButLanes, KeepsClients};
 ghost use Rattle.air_rehearsal.specs.ServerCalls.{AreTimed, ArmsFor, IsCutSo, IsTaken, IsTimed, RepliesAt};
 ghost use Rattle.air_rehearsal.specs.ServerCalls.{SendsByTimer, SendsReplies};
@@ -57,12 +56,6 @@ impl Stations {
             (serving self.old server disk.old) → IsAllowed world (to_server (suc c) (suc place))
             → ServesEvent B.Disk (cuts_by B.restarts B.arming B.plain B.is_starved) world
             (to_server (suc c) (suc place)) (serving self.old server disk.old) (serving self.new later disk.new)) }
-        ensures stops { OnErr result ((world : World)
-            → AwaitsServer B.Disk (cuts_by B.restarts B.arming B.plain B.is_starved) world
-            (serving self.old server disk.old) → IsAllowed world (to_server (suc c) (suc place))
-            → StopsBy B.Disk (cuts_by B.restarts B.arming B.plain B.is_starved) the_server acts
-            (waiting_of self.old.cut) (server_stage world (serving self.old server disk.old))
-            (to_server (suc c) (suc place)) disk.new) }
     {
         misses_law();
         front_of_event_law();
@@ -101,11 +94,6 @@ impl Stations {
             (serving self.old server disk.old)
             → ServesEvent B.Disk (cuts_by B.restarts B.arming B.plain B.is_starved) world
             tick_server (serving self.old server disk.old) (serving self.new later disk.new)) }
-        ensures stops { OnErr result ((world : World)
-            → AwaitsServer B.Disk (cuts_by B.restarts B.arming B.plain B.is_starved) world
-            (serving self.old server disk.old)
-            → StopsBy B.Disk (cuts_by B.restarts B.arming B.plain B.is_starved) the_server acts
-            (waiting_of self.old.cut) (server_stage world (serving self.old server disk.old)) tick_server disk.new) }
     {
         misses_law();
         front_of_event_law();
@@ -189,8 +177,7 @@ impl Stations {
         ensures server { IfOk result (λ server. IsReadyServer B.Disk self.now server disk.new) }
         ensures cuts { IfOk result (IsCutSo B.Disk (cuts_by B.restarts B.arming B.plain B.is_starved) self.now
             disk.old disk.new) }
-        ensures stops { StopsCutting B.Disk (cuts_by B.restarts B.arming B.plain B.is_starved)
-            (λ station. station ≡ the_server) disk.old disk.new }
+        ensures faults { CountsOn B.Disk disk.old disk.new }
     {
         server.close();
         cut.strike(disk)?;

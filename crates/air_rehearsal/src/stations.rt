@@ -15,7 +15,6 @@ ghost use Rattle.air_rehearsal.specs.Asking.{MayResume, MayTakeFile};
 ghost use Rattle.air_rehearsal.specs.Numbers.{numbered, place_numbered};
 ghost use Rattle.air_rehearsal.specs.Worlds.{PlaysStations};
 ghost use Rattle.disk_model.specs.Cuts.{cuts_by};
-ghost use Rattle.air_rehearsal.specs.Halfway.{StopsOpening, TriesToOpen, TriesToStart};
 ghost use Rattle.air_rehearsal.specs.Opening.{OpensAll, OpensClient, OpensFirst};
 ghost use Rattle.air_rehearsal.specs.Ready.{AreReady, IsReadyParty, IsReadyServer};
 ghost use Rattle.air_rehearsal.specs.ServerCalls.{IsRestarted, IsStarted};
@@ -74,8 +73,6 @@ impl Stations {
         ensures ready { IfOk result (λ stations. AreReady B.Disk stations.parties.items disks.new) }
         ensures opens { IfOk result (OpensAll B.Disk (cuts_by B.restarts B.arming B.plain B.is_starved) k calls.now
             disks.old disks.new) }
-        ensures stops { OnErr result (StopsOpening B.Disk (cuts_by B.restarts B.arming B.plain B.is_starved)
-            (length calls.now) disks.old disks.new) }
     {
         let Ok(me) = Call::read(SERVER) else {
             return Err(OutOfMemory);
@@ -101,8 +98,6 @@ impl Stations {
         ensures starts { IfOk result (IsStarted B.Disk (cuts_by B.restarts B.arming B.plain B.is_starved) self.now
             disk.old disk.new) }
         ensures memory { IsOk result → B.is_starved disk.new ≡ false }
-        ensures tries { TriesToOpen B.Disk (cuts_by B.restarts B.arming B.plain B.is_starved) the_server
-            disk.old disk.new }
     {
         disk.arm(None);
         let server = self.restart_server(disk)?;
@@ -118,7 +113,7 @@ impl Stations {
         requires { IsGoodK self.now.k }
         ensures ready { IfOk result (λ server. IsReadyServer B.Disk self.now server disk.new) }
         ensures restarts { IfOk result (IsRestarted B.Disk self.now disk.old disk.new) }
-        ensures tries { TriesToStart B.Disk the_server disk.old disk.new }
+        ensures lasts { B.lasts disk.old disk.new }
     {
         match Server::start(self.alloc, disk, LIMITS, self.me, self.k) {
             Ok(server) => Ok(server),
@@ -238,8 +233,6 @@ fn open_parties<B: CutDisk>(
     ensures ready { IfOk result (λ parties. AreReady B.Disk parties.items disks.new) }
     ensures opens { IfOk result (λ parties. OpensFirst B.Disk (cuts_by B.restarts B.arming B.plain B.is_starved)
         server k (length calls.now) calls.now disks.old disks.new parties.items) }
-    ensures stops { OnErr result (StopsOpening B.Disk (cuts_by B.restarts B.arming B.plain B.is_starved)
-        (length calls.now) disks.old disks.new) }
 {
     let mut parties = Vec::new(alloc);
     for c in 0..calls.len() {
@@ -262,8 +255,6 @@ fn open_party<B: CutDisk>(
     ensures opens { IfOk result (λ party. (c : ℕ) →
         OpensClient B.Disk (cuts_by B.restarts B.arming B.plain B.is_starved) server k c me
         (record { before = disk.old; after = disk.new; party = party })) }
-    ensures tries { (c : ℕ) →
-        TriesToOpen B.Disk (cuts_by B.restarts B.arming B.plain B.is_starved) (client_at c) disk.old disk.new }
 {
     disk.arm(None);
     let party = Party::open(alloc, disk, server, me, k)?;

@@ -1,10 +1,9 @@
-use Rattle.std.proofs.Common.{◌≡◌, ◌∷◌, ℕ, Ok, Err, IsErrAnd, Result, ◌+◌, ◌≤◌, length, sym, ap, inl, inr, ◌∙◌, subst, arith, refl}
+use Rattle.std.proofs.Common.{◌≡◌, ◌∷◌, ℕ, Ok, Err, IsErrAnd, Result, ◌+◌, ◌≤◌, length, sym, ap, ◌∙◌, subst, arith, refl}
 use Rattle.std.proofs.Common.{◌%◌}
 use Rattle.air_rehearsal.specs.declared.rehearsing.RehearseStop.TheVariants as stop
-use Rattle.air_rehearsal.proofs.Names.{List, map, slice_get, Some, false, true, option_map, length-map, slice_get-map, slice_get_read, cuts_by, CallSign, IsAllowed, IsPossible, Event, IsInRange, World, event_value, StopsOpening, OpensAll, bench_of, CanCount, the_server}
-use Rattle.air_rehearsal.proofs.Along.{all_there, ends_there, goes_along, stops_there, wants_at_end, wants_there}
+use Rattle.air_rehearsal.proofs.Names.{List, map, slice_get, Some, false, true, option_map, length-map, slice_get-map, slice_get_read, cuts_by, CallSign, Event, IsInRange, World, event_value, OpensAll, bench_of, CanCount, the_server}
+use Rattle.air_rehearsal.proofs.Along.{all_there, ends_there, goes_along, stops_there}
 use Rattle.air_rehearsal.proofs.FirstBench.{played_first}
-use Rattle.air_rehearsal.proofs.HalfwayOpening.{all_opened, stopped_opening}
 use Rattle.air_rehearsal.proofs.rehearsing.rehearse_over.Goals as goal
 
 -- want of memory is no unlawful event
@@ -116,7 +115,7 @@ returns-clause-rehearsed g c = λ tell.
     let cuts = cuts_by g.B.CutDisk.restarts g.B.CutDisk.arming g.B.CutDisk.plain g.B.CutDisk.is_starved in
     let it = c.args.schedule.now in
     let l = c.loop-event in
-    let lasts = g.met.B.CutDisk.lasts_so l.disk c.end.new.disk c.end.ensures.tries.lasts in
+    let lasts = g.met.B.CutDisk.lasts_so l.disk c.end.new.disk c.end.ensures.lasts in
     let could : CanCount g.B.Disk l.disk =
     (let on = lasts.writes in let can = tell c.end.new.disk refl in omega (arith, on, can)) in
     let played = l.invariant.played could in
@@ -132,65 +131,3 @@ returns-clause-rehearsed g c = λ tell.
       follows = c.follows_law.ensures;
     })
     c.end.new.disk c.in_ok-end.field-0 (let same = ap length c.events-events.ensures in let e : length it.events ≤ l.event-index = omega (arith, same, length-map c.events-events.result.now event_value, c.loop-event-test.false, l.auto.event-index-end) in e) ends
-
--- ---- memory was wanting
-
-may_come : (world : World) (event : Event) → IsInRange event → IsPossible world event → IsAllowed world event
-may_come world event in_range possible = record { in_range = in_range; possible = possible }
-
-pub returns-in_err-stations-clause-wants_memory : goal.returns-in_err-stations-clause-wants_memory
-returns-in_err-stations-clause-wants_memory g c = λ is tell.
-    let cuts = cuts_by g.B.CutDisk.restarts g.B.CutDisk.arming g.B.CutDisk.plain g.B.CutDisk.is_starved in
-    inl
-    (stopped_opening g.B.Disk cuts g.met.B.CutDisk.lasts_so g.met.B.Disk.counts_now c.args.schedule.now
-    c.args.disk.now c.args.disk.now c.args.disks.now c.open.new.disks c.requires (inr refl)
-    (subst
-    (λ (calls : List CallSign). StopsOpening g.B.Disk cuts (length calls) c.args.disks.now c.open.new.disks)
-    c.clients.ensures c.in_err-stations.ensures.stops))
-
-pub returns-in_err-server-clause-wants_memory : goal.returns-in_err-server-clause-wants_memory
-returns-in_err-server-clause-wants_memory g c = λ is tell.
-    let cuts = cuts_by g.B.CutDisk.restarts g.B.CutDisk.arming g.B.CutDisk.plain g.B.CutDisk.is_starved in
-    inl
-    (stopped_opening g.B.Disk cuts g.met.B.CutDisk.lasts_so g.met.B.Disk.counts_now c.args.schedule.now
-    c.args.disk.now c.start.new.disk c.args.disks.now c.open.new.disks c.requires (inl c.start.ensures.tries)
-    (subst
-    (λ (calls : List CallSign). StopsOpening g.B.Disk cuts (length calls) c.args.disks.now c.open.new.disks)
-    c.clients.ensures
-    (all_opened g.B.Disk cuts c.window.result c.clients.result.now c.args.disks.now c.open.new.disks
-    c.in_ok-stations.stations c.in_ok-stations.ensures.opens)))
-
-pub returns-in_err-server-2-clause-wants_memory : goal.returns-in_err-server-2-clause-wants_memory
-returns-in_err-server-2-clause-wants_memory g c = λ is tell.
-    let cuts = cuts_by g.B.CutDisk.restarts g.B.CutDisk.arming g.B.CutDisk.plain g.B.CutDisk.is_starved in
-    let it = c.args.schedule.now in
-    let l = c.loop-event in
-    let could : CanCount g.B.Disk l.disk =
-    (let on = c.play.ensures.faults in let can = tell c.play.new.disk refl in omega (arith, on, can)) in
-    let played = l.invariant.played could in
-    let bench = played.1.playing.bench in
-    let here =
-    event_at event_value c.events-events.result.now it.events l.event-index _ c.events-events.ensures
-    (slice_get_read c.events-events.result.now _ l.event-index _ refl c.loop-event-test.true c.event-item.is) in
-    let allowed =
-    may_come _ _ (all_there IsInRange it.events l.event-index _ c.fits_law.ensures.in_range here)
-    ((c.if-not-allows.ensures _ bench.sound bench.plays.stations).0 refl) in
-    wants_there g.B.Disk cuts it l.event-index g.met.B.CutDisk.lasts_so (c.args.disk.now ∷ c.args.disks.now)
-    (bench_of l.stations l.server l.disk l.disks) c.requires c.fits_law.ensures played g.met.B.Disk.counts_now
-    c.stores_law.ensures _ (c.play.new.disk ∷ c.play.new.disks) here allowed
-    (c.in_err-server-2.ensures.stops _ played.1.playing could allowed)
-
-pub returns-in_err-end-clause-wants_memory : goal.returns-in_err-end-clause-wants_memory
-returns-in_err-end-clause-wants_memory g c = λ is tell.
-    let cuts = cuts_by g.B.CutDisk.restarts g.B.CutDisk.arming g.B.CutDisk.plain g.B.CutDisk.is_starved in
-    let it = c.args.schedule.now in
-    let l = c.loop-event in
-    let lasts = g.met.B.CutDisk.lasts_so l.disk c.end.new.disk c.end.ensures.tries.lasts in
-    let could : CanCount g.B.Disk l.disk =
-    (let on = lasts.writes in let can = tell c.end.new.disk refl in omega (arith, on, can)) in
-    wants_at_end g.B.Disk cuts it l.event-index g.met.B.CutDisk.lasts_so (c.args.disk.now ∷ c.args.disks.now)
-    (bench_of l.stations l.server l.disk l.disks) c.requires c.fits_law.ensures (l.invariant.played could)
-    g.met.B.Disk.counts_now c.end.new.disk
-    (let same = ap length c.events-events.ensures in
-    let e : length it.events ≤ l.event-index = omega (arith, same, length-map c.events-events.result.now event_value, c.loop-event-test.false, l.auto.event-index-end) in e)
-    c.end.ensures.tries

@@ -1,11 +1,10 @@
 -- The server takes part in the event of a tick.
 use Rattle.std.proofs.Common.{◌≡◌, ℕ, Option, None, Some, false, true, refl, sym, ap, subst, ◌∙◌, arith}
-use Rattle.air_rehearsal.proofs.Names.{common_steps, is_ok, cuts_by, Hears, happening, ticks, tick_server as tick_event, KeepsClients, ArmsFor, StopsBy, server_stage, serving, waiting_of, acts, the_server, Cut, Stations}
+use Rattle.air_rehearsal.proofs.Names.{common_steps, is_ok, cuts_by, Hears, happening, ticks, tick_server as tick_event, KeepsClients, ArmsFor, serving, Cut, Stations}
 use Rattle.air_rehearsal.proofs.LaneLaws.{ticking_lanes}
 use Rattle.air_rehearsal.proofs.SameContent.{arms-content, plays-armed}
 use Rattle.air_rehearsal.proofs.Served.{serves-cut}
 use Rattle.air_rehearsal.proofs.ServedHeard.{keeps-no-cut, serves-ticked, ticks-taken}
-use Rattle.air_rehearsal.proofs.HalfwayServer.{cutting_counts, on_err_of, stops_cut, stops_whole}
 use Rattle.air_rehearsal.proofs.ServingCounts.{arms-count}
 use Rattle.air_rehearsal.proofs.ServingKeeps.{keeps-self, keeps-then}
 use Rattle.air_rehearsal.proofs.ServingSent.{if-ok-more}
@@ -107,8 +106,7 @@ returns-in-Some-clause-faults g c =
     let first = arms-count g.B.Disk cuts c.args.self.now.cut c.args.disk.now c.arm-cut.new.disk c.arm-cut.ensures.arms
     in
     let still = ap (λ d. g.B.Disk.write_faults d) c.tick-came.ensures.untouched in
-    let last = cutting_counts g.B.Disk cuts g.met.B.CutDisk.lasts_so c.tick-came.new._disk c.be_cut.new.disk
-    c.be_cut.ensures.stops in
+    let last = c.be_cut.ensures.faults in
     omega (arith, first, last, still)
 
 pub returns-after-is_ok-clause-faults : goal.returns-after-is_ok-clause-faults
@@ -124,61 +122,4 @@ returns-after-is_ok-clause-faults g c =
       | else-is_ok w ↦
           (let same = ap (λ d. g.B.Disk.write_faults d) w.disk-is in
           omega (arith, first, same, still))
-    ]
-
-pub returns-in-Some-clause-stops : goal.returns-in-Some-clause-stops
-returns-in-Some-clause-stops g c =
-    let cuts = (cuts_by g.B.CutDisk.restarts g.B.CutDisk.arming g.B.CutDisk.plain g.B.CutDisk.is_starved) in
-    let waits : c.args.self.now.cut ≡ Some c.in-Some.cut = sym c.arm-cut.ensures.cut ∙ c.in-Some.is in
-    let arms = subst (λ (o : Option Cut). ArmsFor g.B.Disk cuts o c.args.disk.now c.arm-cut.new.disk) waits
-    c.arm-cut.ensures.arms in
-    let old = serving c.args.self.now c.args.server c.args.disk.now in
-    let armed = serving c.args.self.now c.args.server c.arm-cut.new.disk in
-    let mid = serving c.args.self.now c.tick-came.new.self c.tick-came.new._disk in
-    let content =
-    arms-content g.B.Disk cuts c.args.self.now.cut c.args.disk.now c.arm-cut.new.disk c.arm-cut.ensures.arms in
-    on_err_of c.be_cut.result _
-    (λ world awaits.
-    let known = plays-armed g.B.Disk cuts world old c.arm-cut.new.disk awaits content in
-    let at_moment = subst
-    (λ (m : ℕ). Hears g.B.Disk (happening world.server (ticks m)) c.args.server c.tick-came.new.self
-    c.arm-cut.new.disk c.tick-came.new._disk c.tick-came.result) awaits.moment
-    (c.tick-came.ensures.takes.hears known.1 world.server known.0.server) in
-    stops_cut g.B.Disk cuts g.met.B.CutDisk.lasts_so g.met.B.Disk.lasts_on c.misses_law.ensures
-    c.front_of_event_law.ensures world tick_event old mid c.arm-cut.new.disk c.tick-came.result awaits
-    (ticks-taken g.B.Disk cuts g.met.B.CutDisk.lasts_so g.met.B.Disk.content_is_image g.met.B.Disk.counts_now
-    c.misses_law.ensures world armed mid c.tick-came.result at_moment awaits.plays.stations) arms.reads content
-    c.in-Some.cut c.be_cut.new.disk waits arms c.be_cut.ensures.stops)
-
-pub returns-after-is_ok-clause-stops : goal.returns-after-is_ok-clause-stops
-returns-after-is_ok-clause-stops g c = λ world awaits.
-    let cuts = (cuts_by g.B.CutDisk.restarts g.B.CutDisk.arming g.B.CutDisk.plain g.B.CutDisk.is_starved) in
-    let none : c.args.self.now.cut ≡ None = sym c.arm-cut.ensures.cut ∙ c.in-None.is in
-    let disk = subst (λ (o : Option Cut). ArmsFor g.B.Disk cuts o c.args.disk.now c.arm-cut.new.disk) none
-    c.arm-cut.ensures.arms in
-    let old = serving c.args.self.now c.args.server c.args.disk.now in
-    let armed = serving c.args.self.now c.args.server c.arm-cut.new.disk in
-    let mid = serving c.args.self.now c.tick-came.new.self c.tick-came.new._disk in
-    let content =
-    arms-content g.B.Disk cuts c.args.self.now.cut c.args.disk.now c.arm-cut.new.disk c.arm-cut.ensures.arms in
-    let known = plays-armed g.B.Disk cuts world old c.arm-cut.new.disk awaits content in
-    let at_moment = subst
-    (λ (m : ℕ). Hears g.B.Disk (happening world.server (ticks m)) c.args.server c.tick-came.new.self
-    c.arm-cut.new.disk c.tick-came.new._disk c.tick-came.result) awaits.moment
-    (c.tick-came.ensures.takes.hears known.1 world.server known.0.server) in
-    let stops =
-    stops_whole g.B.Disk cuts g.met.B.CutDisk.lasts_so g.met.B.Disk.lasts_on c.misses_law.ensures
-    c.front_of_event_law.ensures world tick_event old mid c.arm-cut.new.disk c.tick-came.result awaits
-    (ticks-taken g.B.Disk cuts g.met.B.CutDisk.lasts_so g.met.B.Disk.content_is_image g.met.B.Disk.counts_now
-    c.misses_law.ensures world armed mid c.tick-came.result at_moment awaits.plays.stations)
-    (ap (λ d. g.B.Disk.read_faults d) disk) content disk none in
-    elim c.if-is_ok.branch [
-      | then-is_ok+then-not-starved+in_default w ↦
-          subst
-          (λ d. StopsBy g.B.Disk cuts the_server acts (waiting_of c.args.self.now.cut) (server_stage world old)
-          tick_event d) (sym (w.disk-is ∙ w.in_default.ensures.disk)) stops
-      | else-is_ok w ↦
-          subst
-          (λ d. StopsBy g.B.Disk cuts the_server acts (waiting_of c.args.self.now.cut) (server_stage world old)
-          tick_event d) (sym w.disk-is) stops
     ]

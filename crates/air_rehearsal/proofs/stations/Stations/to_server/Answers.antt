@@ -1,11 +1,10 @@
 -- The server takes part in the event of the frame that it hears.
 use Rattle.std.proofs.Common.{◌≡◌, Option, None, Some, false, true, refl, sym, ap, subst, ◌∙◌, suc, arith}
-use Rattle.air_rehearsal.proofs.Names.{common_steps, is_ok, cuts_by, to_server, KeepsClients, ArmsFor, IsTaken, StopsBy, server_stage, serving, waiting_of, acts, the_server, Cut, Stations}
+use Rattle.air_rehearsal.proofs.Names.{common_steps, is_ok, cuts_by, to_server, KeepsClients, ArmsFor, IsTaken, serving, Cut, Stations}
 use Rattle.air_rehearsal.proofs.LaneLaws.{hearing_lanes}
 use Rattle.air_rehearsal.proofs.SameContent.{arms-content, plays-armed}
 use Rattle.air_rehearsal.proofs.Served.{serves-cut}
 use Rattle.air_rehearsal.proofs.ServedHeard.{keeps-no-cut, serves-heard}
-use Rattle.air_rehearsal.proofs.HalfwayServer.{cutting_counts, on_err_of, stops_cut, stops_whole}
 use Rattle.air_rehearsal.proofs.ServingCounts.{arms-count}
 use Rattle.air_rehearsal.proofs.ServingKeeps.{keeps-then}
 use Rattle.air_rehearsal.proofs.ServingSent.{if-ok-more}
@@ -95,8 +94,7 @@ returns-in-Some-clause-faults g c =
     let cuts = (cuts_by g.B.CutDisk.restarts g.B.CutDisk.arming g.B.CutDisk.plain g.B.CutDisk.is_starved) in
     let first = arms-count g.B.Disk cuts c.args.self.now.cut c.args.disk.now c.arm-cut.new.disk c.arm-cut.ensures.arms
     in
-    let last = cutting_counts g.B.Disk cuts g.met.B.CutDisk.lasts_so c.hear-came.new.disk c.be_cut.new.disk
-    c.be_cut.ensures.stops in
+    let last = c.be_cut.ensures.faults in
     omega (arith, first, last, c.hear-came.ensures.faults)
 
 pub returns-after-is_ok-clause-faults : goal.returns-after-is_ok-clause-faults
@@ -111,51 +109,4 @@ returns-after-is_ok-clause-faults g c =
       | else-is_ok w ↦
           (let same = ap (λ d. g.B.Disk.write_faults d) w.disk-is in
           omega (arith, first, same, c.hear-came.ensures.faults))
-    ]
-
-pub returns-in-Some-clause-stops : goal.returns-in-Some-clause-stops
-returns-in-Some-clause-stops g c =
-    let cuts = (cuts_by g.B.CutDisk.restarts g.B.CutDisk.arming g.B.CutDisk.plain g.B.CutDisk.is_starved) in
-    let event = to_server (suc c.args.c) (suc c.args.place) in
-    let waits : c.args.self.now.cut ≡ Some c.in-Some.cut = sym c.arm-cut.ensures.cut ∙ c.in-Some.is in
-    let arms = subst (λ (o : Option Cut). ArmsFor g.B.Disk cuts o c.args.disk.now c.arm-cut.new.disk) waits
-    c.arm-cut.ensures.arms in
-    let old = serving c.args.self.now c.args.server c.args.disk.now in
-    let mid = serving c.hear-came.new.self c.hear-came.new.server c.hear-came.new.disk in
-    let content =
-    arms-content g.B.Disk cuts c.args.self.now.cut c.args.disk.now c.arm-cut.new.disk c.arm-cut.ensures.arms in
-    on_err_of c.be_cut.result _
-    (λ world awaits allowed.
-    let armed = plays-armed g.B.Disk cuts world old c.arm-cut.new.disk awaits content in
-    stops_cut g.B.Disk cuts g.met.B.CutDisk.lasts_so g.met.B.Disk.lasts_on c.misses_law.ensures
-    c.front_of_event_law.ensures world event old mid c.arm-cut.new.disk c.hear-came.result awaits
-    (c.hear-came.ensures.takes world awaits.sound armed.0 armed.1 awaits.moment allowed) arms.reads content
-    c.in-Some.cut c.be_cut.new.disk waits arms c.be_cut.ensures.stops)
-
-pub returns-after-is_ok-clause-stops : goal.returns-after-is_ok-clause-stops
-returns-after-is_ok-clause-stops g c = λ world awaits allowed.
-    let cuts = (cuts_by g.B.CutDisk.restarts g.B.CutDisk.arming g.B.CutDisk.plain g.B.CutDisk.is_starved) in
-    let event = to_server (suc c.args.c) (suc c.args.place) in
-    let none : c.args.self.now.cut ≡ None = sym c.arm-cut.ensures.cut ∙ c.in-None.is in
-    let disk = subst (λ (o : Option Cut). ArmsFor g.B.Disk cuts o c.args.disk.now c.arm-cut.new.disk) none
-    c.arm-cut.ensures.arms in
-    let old = serving c.args.self.now c.args.server c.args.disk.now in
-    let mid = serving c.hear-came.new.self c.hear-came.new.server c.hear-came.new.disk in
-    let content =
-    arms-content g.B.Disk cuts c.args.self.now.cut c.args.disk.now c.arm-cut.new.disk c.arm-cut.ensures.arms in
-    let armed = plays-armed g.B.Disk cuts world old c.arm-cut.new.disk awaits content in
-    let stops =
-    stops_whole g.B.Disk cuts g.met.B.CutDisk.lasts_so g.met.B.Disk.lasts_on c.misses_law.ensures
-    c.front_of_event_law.ensures world event old mid c.arm-cut.new.disk c.hear-came.result awaits
-    (c.hear-came.ensures.takes world awaits.sound armed.0 armed.1 awaits.moment allowed)
-    (ap (λ d. g.B.Disk.read_faults d) disk) content disk none in
-    elim c.if-is_ok.branch [
-      | then-is_ok+then-not-starved+in_default w ↦
-          subst
-          (λ d. StopsBy g.B.Disk cuts the_server acts (waiting_of c.args.self.now.cut) (server_stage world old) event d)
-          (sym (w.disk-is ∙ w.in_default.ensures.disk)) stops
-      | else-is_ok w ↦
-          subst
-          (λ d. StopsBy g.B.Disk cuts the_server acts (waiting_of c.args.self.now.cut) (server_stage world old) event d)
-          (sym w.disk-is) stops
     ]
