@@ -11,6 +11,7 @@ pub use Rattle.air_files.specs.SoundStore.{NoneGone}
 pub use Rattle.air_files.specs.Uploads.{IsGoodFile, body_octets, file_ext, file_header, file_name, upload_name}
 unfoldable pub use Rattle.air_files.specs.Uploads.{upload_file}
 pub use Rattle.air_rehearsal.specs.Asking.{MayResume, MayTakeFile}
+pub use Rattle.air_rehearsal.specs.Breaches.{halt_of, halted, stop_at}
 pub use Rattle.air_rehearsal.specs.Chain.{CarriesOut, DiskStep, Follow, IsCutOff, Stage, StartsAgain, StepBy, last_stage}
 pub use Rattle.air_rehearsal.specs.Counting.{EndsSo, Tells, TellsThen, acked_more, asked_more, cut_more, kept_more, no_counts, one_if, outcome_more, told}
 pub use Rattle.air_rehearsal.specs.Course.{HasPlayed, Path, counts_to}
@@ -32,7 +33,7 @@ pub use Rattle.air_rehearsal.specs.Ready.{AreReady, IsReadyParty, IsReadyServer,
 pub use Rattle.air_rehearsal.specs.Rehearsed.{IsUnlawful, KeepsPromise, PromisedInImages, PromisedSince, Rehearsed, TellAllCuts, lines_before, until}
 pub use Rattle.air_rehearsal.specs.Report.{ClientTask, CountOf, IsAcked, IsAckedAndKept, IsReport, Report, all_tasks, came_to, cuts_of, is_fetch, is_question, is_refusal, last_world, tasks_of, times}
 pub use Rattle.air_rehearsal.specs.Seats.{BrokeOff, ChangesAt, Clients, ComesAlways, ComesTo, CountsCut, CountsEvent, GoesApart, IsSeated, MayTake, TookPart, clients_of, with_server}
-pub use Rattle.air_rehearsal.specs.ServerCalls.{AreTimed, ArmsFor, IsCutSo, IsStarted, IsTaken, IsTimed, RepliesAt, SendsByTimer, SendsReplies}
+pub use Rattle.air_rehearsal.specs.ServerCalls.{AnswersEvent, AreTimed, ArmsFor, IsCutSo, IsStarted, IsTaken, IsTimed, RepliesAt, SendsByTimer, SendsReplies, event_of}
 pub use Rattle.air_rehearsal.specs.ServerEvents.{AwaitsServer, CanCount, CountsOn, ServesEvent, Serving, TellsFailure, server_stage, serving, waiting_of}
 pub use Rattle.air_rehearsal.specs.Standing.{Makes, StandsAlike, StandsDuring, StandsNow, least_done}
 pub use Rattle.air_rehearsal.specs.Stations.{IsStationOf, Role, Station, acts, breaks_off, client_at, cut_worlds, for_client, looks_on, place_of, role_of, stations_of, the_server, waiting_after, will_be_cut, with_cut}

@@ -1,4 +1,5 @@
 pub mod Asking
+pub mod Breaches
 pub mod Chain
 pub mod Counting
 pub mod Course

@@ -20,6 +20,7 @@ ghost use Rattle.air_world.specs.Lawful.{IsFree as IsFreeParty};
 ghost use Rattle.air_rehearsal.specs.Lanes.{HasLanes, Lanes};
 ghost use Rattle.air_rehearsal.specs.PartCalls.{BeginsPart, HasTaskOf, KeepsButNotes, KeepsOthers, Restarts, SaysAll};
 ghost use Rattle.air_rehearsal.specs.PartCalls.{StartsTask, TouchesPart, uploads_then};
+ghost use Rattle.air_rehearsal.specs.Breaches.{halt_of, halted};
 ghost use Rattle.air_rehearsal.specs.Drawn.{last_acked as last_acked_in};
 ghost use Rattle.air_rehearsal.specs.NotedTasks.{number_if_acked, number_if_going};
 ghost use Rattle.air_rehearsal.specs.PartyCalls.{BreaksOff, IsLastGoing, IsOpened};
@@ -31,6 +32,7 @@ ghost use Rattle.air_rehearsal.specs.Worlds.{IsSteady};
 use crate::asking::sum_of;
 use crate::attempt::Attempt;
 use crate::cuts::Cut;
+use crate::stopped::{Breach, Stopped};
 use arrayvec::ArrayVec;
 use ax25_frames::{Frame, read_frame};
 use client_notes::laws::images_law;
@@ -38,7 +40,7 @@ use client_notes::{Begun, MOST_TASKS, Noted, Notes, NotesRefusal, TaskNumber};
 use disk_model::{CutDisk, Disk, Halt};
 use ftl0_client::{Client, Job, Outcome};
 use itoa::Buffer;
-use px_base::{Call, FileBytes, FileNumber, OutOfMemory};
+use px_base::{Call, FileBytes, FileNumber};
 use std::alloc::Global;
 
 /// A client of the server, over the notes of its disk, with what it and the server sent in its newest attempt.
@@ -63,7 +65,7 @@ impl Party {
         server: Call,
         me: Call,
         k: u8,
-    ) -> Result<Party, OutOfMemory>
+    ) -> Result<Party, Stopped>
         requires { IsGoodK k }
         ensures ready { IfOk result (λ party. IsReadyParty D.Disk party disk.new) }
         ensures opens { IfOk result (λ party. IsOpened D.Disk server me k disk.old disk.new party) }
@@ -78,7 +80,7 @@ impl Party {
                 attempt: Attempt::new(alloc),
                 cut: None,
             }),
-            Err(_) => Err(OutOfMemory),
+            Err(fault) => Err(Stopped::of_notes(fault)),
         }
     }
 
@@ -87,7 +89,7 @@ impl Party {
         &mut self,
         alloc: Global,
         disk: &mut B,
-    ) -> Result<(), OutOfMemory>
+    ) -> Result<(), Stopped>
         requires { IsReadyParty B.Disk self.old disk.old }
         ensures ready { OnOk result (IsReadyParty B.Disk self.new disk.new) }
         ensures breaks { OnOk result ((seat : Seat) → IsSeat self.old seat
@@ -98,17 +100,13 @@ impl Party {
         images_law(self.client.notes(), disk);
         self.restart(alloc, disk)?;
         if disk.starved() {
-            return Err(OutOfMemory);
+            return Err(Stopped::OutOfMemory);
         }
         Ok(())
     }
 
     /// The client starts again from its notes. Takes memory.
-    pub(crate) fn restart<D: Disk>(
-        &mut self,
-        alloc: Global,
-        disk: &mut D,
-    ) -> Result<(), OutOfMemory>
+    pub(crate) fn restart<D: Disk>(&mut self, alloc: Global, disk: &mut D) -> Result<(), Stopped>
         requires { IsGoodK self.old.k }
         ensures ready { OnOk result (IsReadyParty D.Disk self.new disk.new) }
         ensures restarts { OnOk result (Restarts D.Disk self.old self.new disk.old disk.new) }
@@ -118,7 +116,7 @@ impl Party {
                 self.client = Client::start(notes, self.me, self.server, self.k);
                 Ok(())
             }
-            Err(_) => Err(OutOfMemory),
+            Err(fault) => Err(Stopped::of_notes(fault)),
         }
     }
 
@@ -176,7 +174,7 @@ impl Party {
     }
 
     /// Looks for the task of the upload that was asked last: where it was begun, it is the last task. Takes memory.
-    pub(crate) fn note_task(&mut self, upload: u32) -> Result<(), OutOfMemory>
+    pub(crate) fn note_task(&mut self, upload: u32) -> Result<(), Stopped>
         ensures keeps { KeepsParty self.old self.new }
         ensures notes { OnOk result (self.new.uploads.items
             ≡ uploads_then (task_count self.old.client.notes.lists) upload self.old.uploads.items) }
@@ -193,7 +191,7 @@ impl Party {
         disk: &mut D,
         upload: u32,
         file: &[u8],
-    ) -> Result<TaskNumber, Halt>
+    ) -> Result<TaskNumber, Stopped>
         requires ready { IsReadyParty D.Disk self.old disk.old }
         requires free { IsFree self.old.client }
         requires short { length file.now ≤ longest_file }
@@ -201,7 +199,8 @@ impl Party {
         ensures keeps { KeepsButNotes self.old self.new }
         ensures task { IfOk result (λ task. HasTaskOf self.new.client task 0 file.now) }
         ensures touches { (seat : Seat) (whole : ClientPart) → IsSeat self.old seat
-            → AsksNext seat upload file.now whole → TouchesPart D.Disk whole self.new disk.old disk.new result }
+            → AsksNext seat upload file.now whole
+            → TouchesPart D.Disk whole self.new disk.old disk.new (halted result) }
         ensures starts { IfOk result (λ task. (seat : Seat) (whole : ClientPart) → IsSeat self.old seat
             → AsksNext seat upload file.now whole → StartsTask whole task self.new) }
     {
@@ -214,10 +213,11 @@ impl Party {
         {
             Ok(begun) => match begun {
                 Begun::Fresh { task } => Ok(task),
-                _ => Err(Halt::OutOfMemory),
+                _ => Err(Stopped::Broken(Breach::NoTask)),
             },
-            Err(NotesRefusal::Disk) => Err(Halt::Disk),
-            Err(_) => Err(Halt::OutOfMemory),
+            Err(NotesRefusal::Disk) => Err(Stopped::Broken(Breach::ClientDisk)),
+            Err(NotesRefusal::OutOfMemory) => Err(Stopped::OutOfMemory),
+            Err(_) => Err(Stopped::Broken(Breach::NoTask)),
         }
     }
 
@@ -228,7 +228,7 @@ impl Party {
         disk: &mut D,
         upload: u32,
         file: FileBytes,
-    ) -> Result<(), OutOfMemory>
+    ) -> Result<(), Stopped>
         requires ready { IsReadyParty D.Disk self.old disk.old }
         requires free { IsFree self.old.client }
         requires short { length file ≤ longest_file }
@@ -236,8 +236,9 @@ impl Party {
         ensures begins { OnOk result ((seat : Seat) (whole : ClientPart) → IsSeat self.old seat
             → AsksNext seat upload file whole → BeginsPart D.Disk whole self.old self.new disk.old disk.new) }
     {
-        let Ok(task) = self.start(disk, upload, file.as_slice()) else {
-            return Err(OutOfMemory);
+        let task = match self.start(disk, upload, file.as_slice()) {
+            Ok(task) => task,
+            Err(stopped) => return Err(stopped),
         };
         self.client
             .ask(alloc, Job::upload(task, FileNumber::new(0), file))?;
@@ -254,7 +255,7 @@ impl Party {
         task: TaskNumber,
         number: FileNumber,
         file: &[u8],
-    ) -> Result<(), OutOfMemory>
+    ) -> Result<(), Stopped>
         requires ready { IsReadyParty D.Disk self.old disk.old }
         requires free { IsFree self.old.client }
         requires short { length file.now ≤ longest_file }
@@ -266,25 +267,25 @@ impl Party {
         let name = buffer.format(upload);
         let noted = self.client.notes().noted(self.server, self.me, name);
         let Some(noted) = noted else {
-            return Err(OutOfMemory);
+            return Err(Stopped::Broken(Breach::NoTask));
         };
         let Noted::Going { .. } = noted else {
-            return Err(OutOfMemory);
+            return Err(Stopped::Broken(Breach::NoTask));
         };
         let digest = sum_of(file);
         let length = file.len() as u32;
         let Ok(begun) = self.client.start_task(disk, name, length, digest) else {
-            return Err(OutOfMemory);
+            return Err(Stopped::Broken(Breach::NoTask));
         };
         let Begun::Going {
             task: found,
             number: known,
         } = begun
         else {
-            return Err(OutOfMemory);
+            return Err(Stopped::Broken(Breach::NoTask));
         };
         if found != task || known != number {
-            return Err(OutOfMemory);
+            return Err(Stopped::Broken(Breach::NoTask));
         }
         Ok(())
     }
@@ -297,7 +298,7 @@ impl Party {
         task: TaskNumber,
         number: FileNumber,
         file: FileBytes,
-    ) -> Result<(), OutOfMemory>
+    ) -> Result<(), Stopped>
         requires ready { IsReadyParty D.Disk self.old disk.old }
         requires free { IsFree self.old.client }
         requires short { length file ≤ longest_file }
@@ -307,10 +308,10 @@ impl Party {
             → BeginsPart D.Disk whole self.old self.new disk.old disk.new) }
     {
         if task.get() == 0 {
-            return Err(OutOfMemory);
+            return Err(Stopped::Broken(Breach::NoTask));
         }
         let Some(upload) = self.uploads.get((task.get() - 1) as usize) else {
-            return Err(OutOfMemory);
+            return Err(Stopped::Broken(Breach::NoTask));
         };
         let upload = *upload;
         self.go_on(disk, upload, task, number, file.as_slice())?;
@@ -324,7 +325,7 @@ impl Party {
         alloc: Global,
         _disk: &mut D,
         tokens: FileBytes,
-    ) -> Result<(), OutOfMemory>
+    ) -> Result<(), Stopped>
         requires ready { IsReadyParty D.Disk self.old _disk.old }
         requires free { IsFree self.old.client }
         requires short { length tokens ≤ 2047 }
@@ -343,7 +344,7 @@ impl Party {
         alloc: Global,
         _disk: &mut D,
         number: FileNumber,
-    ) -> Result<(), OutOfMemory>
+    ) -> Result<(), Stopped>
         requires ready { IsReadyParty D.Disk self.old _disk.old }
         requires free { IsFree self.old.client }
         requires some { 1 ≤ number }
@@ -360,13 +361,13 @@ impl Party {
     }
 
     /// The client hears the frame at this place of those that the server sent, which is delivered so. Takes memory.
-    pub(crate) fn hear<D: Disk>(&mut self, disk: &mut D, place: usize) -> Result<(), Halt>
+    pub(crate) fn hear<D: Disk>(&mut self, disk: &mut D, place: usize) -> Result<(), Stopped>
         requires { IsReadyParty D.Disk self.old disk.old }
         ensures theirs { OnOk result (IsTheirs D.Disk self.new disk.new) }
         ensures keeps { KeepsOthers self.old self.new }
         ensures touches { (seat : Seat) (whole : ClientPart) → IsSeat self.old seat
             → DeliversToClient seat.party place whole
-            → TouchesPart D.Disk whole self.new disk.old disk.new result }
+            → TouchesPart D.Disk whole self.new disk.old disk.new (halted result) }
         ensures begins { OnOk result ((seat : Seat) (whole : ClientPart) → IsSeat self.old seat
             → DeliversToClient seat.party place whole
             → BeginsPart D.Disk whole self.old self.new disk.old disk.new) }
@@ -381,7 +382,7 @@ impl Party {
                     images_law(self.client.notes(), disk);
                     Ok(())
                 }
-                Err(halt) => Err(halt),
+                Err(halt) => Err(stopped_by(halt)),
             },
             None => Ok(()),
         }
@@ -399,7 +400,7 @@ impl Party {
     }
 
     /// The client sends all that it has to send. Takes memory.
-    pub(crate) fn say<D: Disk>(&mut self, _disk: &mut D) -> Result<(), OutOfMemory>
+    pub(crate) fn say<D: Disk>(&mut self, _disk: &mut D) -> Result<(), Stopped>
         requires { IsTheirs D.Disk self.old _disk.old }
         ensures ready { OnOk result (IsReadyParty D.Disk self.new _disk.new) }
         ensures same { _disk.new ≡ _disk.old }
@@ -426,6 +427,16 @@ pub(crate) fn frame_for(me: Call, octets: &[u8]) -> Option<Frame<'_>>
     match read_frame(octets) {
         Ok(frame) if frame.dest == me && frame.via == 0 => Some(frame),
         _ => None,
+    }
+}
+
+/// A client halted so over its disk.
+fn stopped_by(halt: Halt) -> Stopped
+    ensures { halt_of result ≡ halt }
+{
+    match halt {
+        Halt::Disk => Stopped::Broken(Breach::ClientDisk),
+        Halt::OutOfMemory => Stopped::OutOfMemory,
     }
 }
 

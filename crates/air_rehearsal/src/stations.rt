@@ -25,13 +25,14 @@ use crate::cuts::Cut;
 use crate::lane::Lane;
 use crate::party::Party;
 use crate::report::Report;
+use crate::stopped::{Breach, Stopped};
 use air_schedule::Event;
 use client_notes::laws::images_law;
 use disk_model::CutDisk;
 use file_store::Limits;
 use ftl0_server::Server;
 use px_base::laws::one_call;
-use px_base::{Call, Moment, OutOfMemory};
+use px_base::{Call, Moment};
 use std::alloc::Global;
 
 /// The characters of the server's call.
@@ -66,7 +67,7 @@ impl Stations {
         disks: &mut [B],
         k: u8,
         calls: &[Call],
-    ) -> Result<Stations, OutOfMemory>
+    ) -> Result<Stations, Stopped>
         requires window { IsGoodK k }
         requires enough { length calls.now ≤ length disks.old }
         ensures k { IfOk result (λ stations. stations.k ≡ k) }
@@ -75,7 +76,7 @@ impl Stations {
             disks.old disks.new) }
     {
         let Ok(me) = Call::read(SERVER) else {
-            return Err(OutOfMemory);
+            return Err(Stopped::Broken(Breach::NotMade));
         };
         one_call();
         let parties = open_parties(alloc, disks, me, k, calls)?;
@@ -92,7 +93,7 @@ impl Stations {
     }
 
     /// The server starts for the first time: its disk isn't armed from then on. Takes memory.
-    pub(crate) fn start<B: CutDisk>(&self, disk: &mut B) -> Result<Server, OutOfMemory>
+    pub(crate) fn start<B: CutDisk>(&self, disk: &mut B) -> Result<Server, Stopped>
         requires { IsGoodK self.now.k }
         ensures ready { IfOk result (λ server. IsReadyServer B.Disk self.now server disk.new) }
         ensures starts { IfOk result (IsStarted B.Disk (cuts_by B.restarts B.arming B.plain B.is_starved) self.now
@@ -103,13 +104,13 @@ impl Stations {
         let server = self.restart_server(disk)?;
         if disk.starved() {
             server.close();
-            return Err(OutOfMemory);
+            return Err(Stopped::OutOfMemory);
         }
         Ok(server)
     }
 
     /// The server starts from the store of its disk. Takes memory.
-    pub(crate) fn restart_server<B: CutDisk>(&self, disk: &mut B) -> Result<Server, OutOfMemory>
+    pub(crate) fn restart_server<B: CutDisk>(&self, disk: &mut B) -> Result<Server, Stopped>
         requires { IsGoodK self.now.k }
         ensures ready { IfOk result (λ server. IsReadyServer B.Disk self.now server disk.new) }
         ensures restarts { IfOk result (IsRestarted B.Disk self.now disk.old disk.new) }
@@ -117,7 +118,7 @@ impl Stations {
     {
         match Server::start(self.alloc, disk, LIMITS, self.me, self.k) {
             Ok(server) => Ok(server),
-            Err(_) => Err(OutOfMemory),
+            Err(fault) => Err(Stopped::of_store(fault)),
         }
     }
 
@@ -227,7 +228,7 @@ fn open_parties<B: CutDisk>(
     server: Call,
     k: u8,
     calls: &[Call],
-) -> Result<Vec<Party>, OutOfMemory>
+) -> Result<Vec<Party>, Stopped>
     requires window { IsGoodK k }
     requires enough { length calls.now ≤ length disks.old }
     ensures ready { IfOk result (λ parties. AreReady B.Disk parties.items disks.new) }
@@ -249,7 +250,7 @@ fn open_party<B: CutDisk>(
     server: Call,
     me: Call,
     k: u8,
-) -> Result<Party, OutOfMemory>
+) -> Result<Party, Stopped>
     requires { IsGoodK k }
     ensures ready { IfOk result (λ party. IsReadyParty B.Disk party disk.new) }
     ensures opens { IfOk result (λ party. (c : ℕ) →
@@ -259,7 +260,7 @@ fn open_party<B: CutDisk>(
     disk.arm(None);
     let party = Party::open(alloc, disk, server, me, k)?;
     if disk.starved() {
-        return Err(OutOfMemory);
+        return Err(Stopped::OutOfMemory);
     }
     images_law(party.client.notes(), disk);
     Ok(party)
