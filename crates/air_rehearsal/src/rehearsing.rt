@@ -41,8 +41,8 @@ pub enum RehearseStop {
 /// are. Takes memory.
 ///
 /// `Unlawful` comes if an event may not come, for the first such one: the disks hold what the events before it wrote.
-/// `Broken` says that something was found which never should be, as a store that a recovery refuses. After it, and after
-/// `OutOfMemory`, nothing is said of the disks. A clause holds if the count of the server's disk's failed writes
+/// `Broken` says that something was found which never should be, as a store that a recovery refuses. After it, and
+/// after `OutOfMemory`, nothing is said of the disks. A clause holds if the count of the server's disk's failed writes
 /// doesn't stand at its last number then.
 pub fn rehearse<B: CutDisk>(
     alloc: Global,

@@ -13,8 +13,8 @@ returns-in-Ok-rehearse g c =
     (record { schedule = c.in-Ok.schedule; text = c.in-Ok.ensures.read; rehearsed = c.in-Ok-rehearse.ensures.rehearsed })
     c.show_report.ensures
 
-pub returns-in-Err-Broken : goal.returns-in-Err-Broken
-returns-in-Err-Broken g c =
+pub returns : goal.returns
+returns g c =
     none-put g.O.Out c.args.out.now
     (ContentEnd g.B.Disk
     (cuts_by g.B.CutDisk.restarts g.B.CutDisk.arming g.B.CutDisk.plain g.B.CutDisk.is_starved) c.args.text.now
