@@ -32,4 +32,4 @@ returns-in-Err-Broken g c =
 -- an event that may not come isn't played
 pub unreachable-requires : goal.unreachable-requires
 unreachable-requires g c =
-    c.in-Err-Unlawful.ensures.lawful c.in-Err-Unlawful.line (ap Err c.in-Err-Unlawful.field-0-is)
+    c.in-Err-Unlawful.ensures.lawful c.in-Err-Unlawful.field-0-0 (ap Err c.in-Err-Unlawful.field-0-is)

@@ -1,6 +1,6 @@
 use Rattle.std.proofs.Common.{refl, sym, subst, Some}
 use Rattle.air_schedule.specs.declared.event.Event.{Event as StoredEvent}
-use Rattle.air_rehearsal.proofs.Names.{cuts_by, event_value, StopsApart, GoesApart, clients_of, Cut, Stations}
+use Rattle.air_rehearsal.proofs.Names.{cuts_by, event_value, GoesApart, clients_of, Cut, Stations}
 use Rattle.air_rehearsal.proofs.PlayApart.{notes_server_cut}
 use Rattle.air_rehearsal.proofs.stations.Stations.go_apart.Goals as goal
 
