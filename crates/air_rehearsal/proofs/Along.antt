@@ -2,9 +2,8 @@
 use Rattle.std.specs.Prelude.{◌≡◌, ◌+◌, ◌<◌, ◌≤◌, ◌∷◌, ◌++◌}
 use Rattle.std.proofs.Common.{inr, sym, ap, ◌∙◌, subst, arith}
 use Rattle.air_rehearsal.specs.declared.report.Report.{Report as StoredReport}
-use Rattle.air_rehearsal.proofs.Names.{ℕ, zero, suc, List, [], length, take, drop, slice_get, Some, refl, AllByRecursion, append-nil, length-take-le, take_all, same_Some, slice_get_within, AreFresh, Cuts, LastsSo, cut_state, Ghosts, StoresLaw, IsAllowed, Event, IsInRange, IsSchedule, Schedule, World, first_world, EndsSo, StopsEvent, TriesToStart, Bench, PlaysEvent, EndsHalf, IsUnlawful, Rehearsed, WantsMemory, until, last_world, the_server}
-use Rattle.air_rehearsal.proofs.Finished.{bench_played, finished, refused}
-use Rattle.air_rehearsal.proofs.HalfwayPlay.{end_ends, event_ends}
+use Rattle.air_rehearsal.proofs.Names.{ℕ, zero, suc, List, [], length, take, drop, slice_get, Some, refl, AllByRecursion, append-nil, length-take-le, take_all, same_Some, slice_get_within, AreFresh, Cuts, LastsSo, cut_state, Ghosts, IsAllowed, Event, IsInRange, IsSchedule, Schedule, World, first_world, EndsSo, Bench, PlaysEvent, IsUnlawful, Rehearsed, until, last_world}
+use Rattle.air_rehearsal.proofs.Finished.{finished, refused}
 use Rattle.air_rehearsal.proofs.WholePlay.{PlayedSome, stepped}
 use Rattle.air_rehearsal.proofs.WholeRehearsal.{RehearsalLaws}
 
@@ -89,56 +88,3 @@ module _ {B : Type 0} (g : Ghosts B) (cuts : Cuts B) (schedule : Schedule) (i : 
         (take_all i schedule.events all)
         (finished g cuts lasts_so front played.0 bench at fresh played.1 (front_schedule is_schedule) laws disk_now
         report ends).0
-
-    module _ (counts_now : (disk : B) (t : ℕ) (image : List ℕ) → t ≤ g.moment disk → g.images disk image
-        → g.images_since disk t image) where
-      -- Memory was wanting in the event, which could come.
-      pub wants_there :
-          (law : StoresLaw) (event : Event) (bench_now : List B) → slice_get schedule.events i ≡ Some event
-          → IsAllowed world event → StopsEvent g cuts at.stations world event (at.disk ∷ at.disks) bench_now
-          → WantsMemory g cuts schedule bench bench_now
-      wants_there law event bench_now is allowed stops =
-          inr
-          (record {
-            front = take i schedule.events;
-            rest = event ∷ drop (suc i) schedule.events;
-            split = split_at schedule.events i event is;
-            worlds = played.0;
-            run = record { is_schedule = front_schedule is_schedule; plays = played.1.plays };
-            next = allowed;
-            played =
-                bench_played g cuts lasts_so front played.0 bench at fresh played.1
-                (EndsHalf g cuts (event ∷ drop (suc i) schedule.events)) bench_now
-                (λ station stage of_it is_stage.
-                event_ends g cuts lasts_so counts_now world at played.1.playing.bench law event
-                (drop (suc i) schedule.events) allowed bench_now stops station stage is_stage)
-                (λ place far. stops.others place (let many = played.1.count_is in omega (arith, many, far)))
-                stops.as_many;
-          })
-
-      -- Memory was wanting at the end.
-      pub wants_at_end :
-          (disk_now : B) → length schedule.events ≤ i → TriesToStart g the_server at.disk disk_now
-          → WantsMemory g cuts schedule bench (disk_now ∷ at.disks)
-      wants_at_end disk_now all tries =
-          inr
-          (record {
-            front = take i schedule.events;
-            rest = [];
-            split = sym (take_all i schedule.events all) ∙ sym (append-nil (take i schedule.events));
-            worlds = played.0;
-            run = record { is_schedule = front_schedule is_schedule; plays = played.1.plays };
-            next = tt;
-            played =
-                bench_played g cuts lasts_so front played.0 bench at fresh played.1 (EndsHalf g cuts [])
-                (disk_now ∷ at.disks)
-                (λ station stage of_it is_stage.
-                end_ends g cuts lasts_so counts_now world at played.1.playing.bench disk_now tries station stage
-                is_stage)
-                (others_end disk_now) refl;
-          })
-        where
-          others_end : (disk_now : B) (place : ℕ) → length front.calls < place
-              → slice_get (disk_now ∷ at.disks) place ≡ slice_get (at.disk ∷ at.disks) place
-          others_end disk_now zero far = absurd (let no : ⊥ = omega (arith, far) in no)
-          others_end disk_now (suc c) far = refl

@@ -2,7 +2,7 @@
 use Rattle.std.specs.Prelude.{◌≡◌, ◌∷◌, ◌++◌}
 use Rattle.std.proofs.Common.{sym, ap, subst, inl, inr, arith, append_assoc}
 use Rattle.air_schedule.specs.declared.event.Event.{Event as StoredEvent}
-use Rattle.air_rehearsal.proofs.Names.{ℕ, List, [], Option, Result, Ok, Err, IfOk, OnOk, refl, option_map, Cuts, Ghosts, ServerState, event_value, IsAllowed, Event, World, Comes, Driven, Drives, IsDraw, IsReadyBench, PlaysEach, StopsDriving, Draw, Drawing, Takes, Tries, TriesIf, drawn, state_after, StopsEvent, Bench, IsPlaying, PlaysEvent, bench_of, AreReady, IsReadyServer, last_world, CanCount, CountsOn, Stations}
+use Rattle.air_rehearsal.proofs.Names.{ℕ, List, [], Option, Result, Ok, Err, IfOk, OnOk, refl, option_map, Cuts, Ghosts, ServerState, event_value, IsAllowed, Event, World, Comes, Driven, Drives, IsDraw, IsReadyBench, PlaysEach, Draw, Drawing, Takes, Tries, TriesIf, drawn, state_after, Bench, IsPlaying, PlaysEvent, bench_of, AreReady, IsReadyServer, last_world, CanCount, CountsOn, Stations}
 use Rattle.air_rehearsal.proofs.WholePlay.{playing_next}
 
 -- where a generator stands
@@ -265,58 +265,4 @@ module _ {B : Type 0} (g : Ghosts B) (cuts : Cuts B) where
               (drawing state world (came.events ++ later) (came.worlds ++ rest)) last) is.state_is
               (came.moves later rest));
         };
-  }
-
-  -- ---- where memory was wanting
-
-  -- in a call behind another one
-  pub stops_then :
-      (Moves : Drawing → Drawing → Type 0) (old mid : Driven B) (disk_now : B) (disks_now : List B)
-      → Drives g cuts Moves old mid → StopsDriving g cuts mid.bench disk_now disks_now
-      → StopsDriving g cuts old.bench disk_now disks_now
-  stops_then Moves old mid disk_now disks_now one two = record {
-    faults = (let first = one.faults in let second = two.faults in omega (arith, first, second));
-    halts = λ world playing can.
-        let could : CanCount g mid.bench.disk = (let on = two.faults in omega (arith, on, can)) in
-        let first = one.comes world playing could in
-        let last =
-        two.halts (last_world world first.worlds)
-        (played_by world first.events first.worlds old.bench mid.bench playing first.plays) can in
-        let same = sym (last_behind world first.worlds last.worlds) in
-        record {
-          events = first.events ++ last.events;
-          worlds = first.worlds ++ last.worlds;
-          amid = last.amid;
-          plays =
-              plays_more world first.events first.worlds last.events last.worlds old.bench mid.bench last.amid
-              first.plays last.plays;
-          event = last.event;
-          allowed = subst (λ (w : World). IsAllowed w last.event) same last.allowed;
-          stops =
-              subst
-              (λ (w : World).
-              StopsEvent g cuts last.amid.stations w last.event (last.amid.disk ∷ last.amid.disks)
-              (disk_now ∷ disks_now)) same last.stops;
-        };
-  }
-
-  -- in the first event
-  pub stops_first :
-      (event : Event) (old : Bench B) (disk_now : B) (disks_now : List B)
-      → ((world : World) → IsPlaying g cuts world old → IsAllowed world event) → CountsOn g old.disk disk_now
-      → ((world : World) → IsPlaying g cuts world old → CanCount g old.disk → IsAllowed world event
-      → StopsEvent g cuts old.stations world event (old.disk ∷ old.disks) (disk_now ∷ disks_now))
-      → StopsDriving g cuts old disk_now disks_now
-  stops_first event old disk_now disks_now allowed faults stops = record {
-    faults = faults;
-    halts = λ world playing can. record {
-      events = [];
-      worlds = [];
-      amid = old;
-      plays = (refl, refl);
-      event = event;
-      allowed = allowed world playing;
-      stops =
-          stops world playing (let e : CanCount g old.disk = omega (arith, faults, can) in e) (allowed world playing);
-    };
   }

@@ -2,11 +2,10 @@
 use Rattle.std.specs.Prelude.{◌≡◌, ◌<◌, ◌≤◌, ◌∷◌, ◌++◌}
 use Rattle.std.proofs.Common.{inr, sym, ap, ◌∙◌, subst, append_assoc, arith}
 use Rattle.air_rehearsal.specs.declared.report.Report.{Report as StoredReport}
-use Rattle.air_rehearsal.proofs.Names.{ℕ, zero, suc, List, [], length, slice_get, Some, refl, AllByRecursion, append-nil, AreFresh, Cuts, LastsSo, cut_state, Ghosts, Plays, StoresLaw, Event, IsInRange, IsSchedule, Schedule, World, first_world, Stage, EndsSo, HasPlayed, drawn_calls, rounds, Comes, Driven, Halts, PlaysEach, StopsDrawn, DrivenBy, IsDrawnBy, Turns, TriesToStart, Bench, IsBench, IsStage, client_count, EndsHalf, MayGoOn, until, last_world, Station, place_of, the_server}
+use Rattle.air_rehearsal.proofs.Names.{ℕ, zero, suc, List, [], length, slice_get, Some, refl, AllByRecursion, append-nil, AreFresh, Cuts, LastsSo, cut_state, Ghosts, Plays, Event, IsInRange, IsSchedule, Schedule, World, first_world, Stage, EndsSo, HasPlayed, drawn_calls, rounds, Comes, Driven, PlaysEach, DrivenBy, IsDrawnBy, Turns, Bench, IsBench, IsStage, client_count, until, last_world, Station, place_of, the_server}
 use Rattle.air_rehearsal.proofs.CourseLemmas.{last_more}
 use Rattle.air_rehearsal.proofs.DriveLemmas.{drawing, played_by}
-use Rattle.air_rehearsal.proofs.Finished.{bench_played, finished}
-use Rattle.air_rehearsal.proofs.HalfwayPlay.{end_ends, event_ends}
+use Rattle.air_rehearsal.proofs.Finished.{finished}
 use Rattle.air_rehearsal.proofs.WholePlay.{stepped}
 use Rattle.air_rehearsal.proofs.WholeRehearsal.{RehearsalLaws}
 
@@ -104,74 +103,3 @@ module _ {B : Type 0} (g : Ghosts B) (cuts : Cuts B) where
                 all_worlds = refl;
               });
         }
-
-  module _ (lasts_so : (old new : B) → g.lasts old new → LastsSo (cut_state g cuts old) (cut_state g cuts new))
-      (counts_now : (disk : B) (t : ℕ) (image : List ℕ) → t ≤ g.moment disk → g.images disk image
-      → g.images_since disk t image) (bench : List B) (fresh : AreFresh g cuts bench) (old : Bench B)
-      (first : HasPlayed g cuts (drawn_schedule []) [] bench old) (is_schedule : IsSchedule (drawn_schedule [])) where
-    -- these events were played, and the disks end so
-    ends-drawn :
-        (events : List Event) (worlds : List World) (now : Bench B) (rest : List Event) (bench_now : List B)
-        → PlaysEach g cuts (first_world (drawn_schedule [])) events worlds old now
-        → MayGoOn (last_world (first_world (drawn_schedule [])) worlds) rest
-        → ((station : Station) (stage : Stage B)
-        → IsStage (last_world (first_world (drawn_schedule [])) worlds) now station stage
-        → (disk_now : B) × (slice_get bench_now (place_of station) ≡ Some disk_now)
-        × EndsHalf g cuts rest station stage disk_now)
-        → ((place : ℕ) → client_count now.stations < place
-        → slice_get bench_now place ≡ slice_get (now.disk ∷ now.disks) place)
-        → length bench_now ≡ suc (length now.disks) → StopsDrawn g cuts bench bench_now
-    ends-drawn events worlds now rest bench_now plays next ends others many =
-        let front : Schedule = drawn_schedule events in
-        let played : HasPlayed g cuts front worlds bench now =
-        played-each (drawn_schedule []) [] bench events worlds old now first plays in
-        record {
-          schedule = drawn_schedule (events ++ rest);
-          drawn_for = record { size_is = refl; calls_are = refl };
-          wants =
-              inr
-              (record {
-                front = events;
-                rest = rest;
-                split = refl;
-                worlds = worlds;
-                run = record { is_schedule = lawful-of events worlds is_schedule played.plays; plays = played.plays };
-                next = next;
-                played =
-                    bench_played g cuts lasts_so front worlds bench now fresh played (EndsHalf g cuts rest) bench_now
-                    (λ station stage of_it is_stage. ends station stage is_stage)
-                    (λ place far. others place (let count = played.count_is in omega (arith, count, far))) many;
-              });
-        }
-
-    playing-last :
-        (events : List Event) (worlds : List World) (now : Bench B)
-        → PlaysEach g cuts (first_world (drawn_schedule [])) events worlds old now
-        → IsBench g cuts (last_world (first_world (drawn_schedule [])) worlds) now
-    playing-last events worlds now plays =
-        (played_by g cuts (first_world (drawn_schedule [])) events worlds old now first.playing plays).bench
-
-    -- Memory was wanting in an event.
-    pub halts-drawn :
-        (law : StoresLaw) (bench_now : List B) → Halts g cuts (first_world (drawn_schedule [])) old bench_now
-        → StopsDrawn g cuts bench bench_now
-    halts-drawn law bench_now it =
-        ends-drawn it.events it.worlds it.amid (it.event ∷ []) bench_now it.plays it.allowed
-        (event_ends g cuts lasts_so counts_now (last_world (first_world (drawn_schedule [])) it.worlds) it.amid
-        (playing-last it.events it.worlds it.amid it.plays) law it.event [] it.allowed bench_now it.stops)
-        it.stops.others it.stops.as_many
-
-    -- It was wanting at the end.
-    pub halts-at-end :
-        (events : List Event) (worlds : List World) (now : Bench B) (disk_now : B)
-        → PlaysEach g cuts (first_world (drawn_schedule [])) events worlds old now
-        → TriesToStart g the_server now.disk disk_now → StopsDrawn g cuts bench (disk_now ∷ now.disks)
-    halts-at-end events worlds now disk_now plays tries =
-        ends-drawn events worlds now [] (disk_now ∷ now.disks) plays tt
-        (end_ends g cuts lasts_so counts_now (last_world (first_world (drawn_schedule [])) worlds) now
-        (playing-last events worlds now plays) disk_now tries) others refl
-      where
-        others : (place : ℕ) → client_count now.stations < place
-            → slice_get (disk_now ∷ now.disks) place ≡ slice_get (now.disk ∷ now.disks) place
-        others zero far = absurd (let no : ⊥ = omega (arith, far) in no)
-        others (suc c) far = refl

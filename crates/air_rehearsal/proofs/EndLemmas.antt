@@ -3,7 +3,7 @@ use Rattle.std.proofs.Common.{◌≡◌, ℕ, ◌≤◌, List, true, false, Opti
 use Rattle.file_store.specs.Recovery.{IsRecovered}
 use Rattle.file_store.specs.State.{StandsFor}
 use Rattle.air_rehearsal.specs.declared.report.Report.{Report as StoredReport}
-use Rattle.air_rehearsal.proofs.Names.{IsTold, Ghosts, ChangesReads, IsQuietNow, TellsAlike, images_now, state, alike_on, alike_same, at_told, joined, reads, reads_now, told_weaker, IsKnown, IsReady, StoreState, standing_of, store_on, Store, on_same, stands-each, World, store_blocks, EndsSo, CountsAcked, LooksOnly, TriesToStart, all_tasks, StandsAlike, StandsNow, Station, the_server}
+use Rattle.air_rehearsal.proofs.Names.{IsTold, Ghosts, ChangesReads, IsQuietNow, TellsAlike, images_now, state, alike_on, alike_same, at_told, joined, reads, reads_now, told_weaker, IsKnown, IsReady, StoreState, standing_of, store_on, Store, on_same, stands-each, World, store_blocks, EndsSo, CountsAcked, LooksOnly, StartsAgain, all_tasks, StandsAlike, StandsNow, Station, the_server}
 
 is-some : (content : Option (List ℕ)) → IsTold content → (octets : List ℕ) × (content ≡ Some octets)
 is-some None told = absurd (let e : false ≡ true = told in cc)
@@ -34,21 +34,6 @@ module _ {D : Type 0} (g : Ghosts D) where
   recovered-known world disk mid stands told =
       inr (told.1 (told-by (g.content disk) stands.content stands.is_content))
 
-  -- A station that was to start from its disk was so behind reads too.
-  pub tries-reads : ((first second third : D) → g.lasts first second → g.lasts second third → g.lasts first third)
-      → (station : Station) (disk mid now : D) → TriesToStart g station disk mid → ChangesReads g mid now
-      → g.lasts mid now → TriesToStart g station disk now
-  tries-reads on station disk mid now tried only lasts = record {
-    told = alike_on (g.content disk) (g.content mid) (g.content now) tried.told
-        (alike_same (g.content mid) (g.content now) only.same_content);
-    since = told_weaker (g.content disk) _ _
-        (λ before told leaves.
-        joined g.moment g.images_since disk mid now (StandsAlike station before) leaves
-        (reads g.moment g.images_since mid now (StandsAlike station before) only.same_moment only.same_past))
-        tried.since;
-    lasts = on disk mid now tried.lasts lasts;
-  }
-
   -- a quiet disk is quiet behind reads
   quiet-reads : (mid now : D) → ChangesReads g mid now → IsQuietNow g mid → IsQuietNow g now
   quiet-reads mid now only quiet =
@@ -56,6 +41,22 @@ module _ {D : Type 0} (g : Ghosts D) where
       (sym only.same_content)
       (told_weaker (g.content mid) _ _
       (λ octets told each image here. each image (reads_now g mid now only image here)) quiet)
+
+  -- A station that started from its disk did so after reads too.
+  starts-reads : ((first second third : D) → g.lasts first second → g.lasts second third → g.lasts first third)
+      → (station : Station) (disk mid now : D) → StartsAgain g station disk mid → ChangesReads g mid now
+      → g.lasts mid now → StartsAgain g station disk now
+  starts-reads on station disk mid now starts only lasts = record {
+    told = alike_on (g.content disk) (g.content mid) (g.content now) starts.told
+        (alike_same (g.content mid) (g.content now) only.same_content);
+    since = told_weaker (g.content disk) _ _
+        (λ before told leaves.
+        joined g.moment g.images_since disk mid now (StandsAlike station before) leaves
+        (reads g.moment g.images_since mid now (StandsAlike station before) only.same_moment only.same_past))
+        starts.since;
+    quiet = quiet-reads mid now only starts.quiet;
+    lasts = on disk mid now starts.lasts lasts;
+  }
 
   -- A disk on which a store stands that is the world's stands for the world.
   pub stands-end : ((disk : D) → IfSome (g.content disk) (g.images disk))
@@ -86,24 +87,19 @@ module _ {D : Type 0} (g : Ghosts D) where
       → ((disk : D) (t : ℕ) (image : List ℕ) → t ≤ g.moment disk → g.images disk image → g.images_since disk t image)
       → (world : World) (disk mid now : D) (store store_now : StoreState) (before report : StoredReport)
       → StandsNow g the_server world disk → IsRecovered g store_blocks disk mid store
-      → TriesToStart g the_server disk mid → LooksOnly g store store_now mid now
+      → StartsAgain g the_server disk mid → LooksOnly g store store_now mid now
       → store_on g store mid ≡ world.server.store → CountsAcked (all_tasks world) before report
       → EndsSo g world before disk now report
-  ends-so on image-of counts world disk mid now store store_now before report stands recovered tried looks same
+  ends-so on image-of counts world disk mid now store store_now before report stands recovered starts looks same
       counted =
-      let all = tries-reads on the_server disk mid now tried looks.only looks.lasts in
+      let all = starts-reads on the_server disk mid now starts looks.only looks.lasts in
       let told : IsTold (g.content now) = all.told.1 (told-by (g.content disk) stands.content stands.is_content) in
       let ready = subst (λ (it : StoreState). IsReady g it now) looks.stays.same looks.stays.ready in
       record {
         acked = counted.acked;
         is_acked = counted.is_acked;
         report_tells = counted.tells;
-        again = record {
-          told = all.told;
-          since = all.since;
-          quiet = quiet-reads mid now looks.only recovered.quiet;
-          lasts = all.lasts;
-        };
+        again = all;
         stands =
             stands-end image-of counts world store now (on_same g store mid now looks.only.same_content ∙ same) ready
             told;

@@ -2,7 +2,6 @@ mod AckedLemmas
 mod ActLemmas
 mod Along
 mod Alike
-mod AlikeAmid
 mod AllowedLemmas
 mod AnswersCall
 mod Apart
@@ -30,11 +29,6 @@ mod Finished
 mod FirstBench
 mod FramesTo
 mod HeardLemmas
-mod HalfwayClients
-mod HalfwayCuts
-mod HalfwayOpening
-mod HalfwayPlay
-mod HalfwayServer
 mod HearingLanes
 mod ImagesThrough
 mod KeptLemmas
@@ -45,7 +39,6 @@ mod LooksLemmas
 mod NumberedLemmas
 mod OneReport
 mod OpeningLemmas
-mod OpensHalfway
 mod PairLemmas
 mod PartLemmas
 mod PartiesLemmas
@@ -74,7 +67,6 @@ mod ServingTaken
 mod ServingWorld
 mod StampedTime
 mod StandsNowLemmas
-mod StopsHalfway
 mod TaskFiles
 mod TickingLanes
 mod Took

@@ -11,14 +11,14 @@ pub use Rattle.air_world.specs.Files.SoundStore.{NoneGone}
 pub use Rattle.air_world.specs.Files.Uploads.{IsGoodFile, body_octets, file_ext, file_header, file_name, upload_name}
 unfoldable pub use Rattle.air_world.specs.Files.Uploads.{upload_file}
 pub use Rattle.air_rehearsal.specs.Asking.{MayResume, MayTakeFile}
+pub use Rattle.air_rehearsal.specs.Breaches.{halt_of, halted, stop_at}
 pub use Rattle.air_rehearsal.specs.Chain.{CarriesOut, DiskStep, Follow, IsCutOff, Stage, StartsAgain, StepBy, last_stage}
 pub use Rattle.air_rehearsal.specs.Counting.{EndsSo, Tells, TellsThen, acked_more, asked_more, cut_more, kept_more, no_counts, one_if, outcome_more, told}
 pub use Rattle.air_rehearsal.specs.Course.{HasPlayed, Path, counts_to}
 pub use Rattle.air_rehearsal.specs.Drawn.{drawn_calls, is_acked, last_acked, rounds}
-pub use Rattle.air_rehearsal.specs.Driving.{Comes, Driven, Drives, Halts, IsDraw, IsReadyBench, PlaysEach, StopsDrawn, StopsDriving, delivery_of, driven_by}
+pub use Rattle.air_rehearsal.specs.Driving.{Comes, Driven, Drives, IsDraw, IsReadyBench, PlaysEach, delivery_of, driven_by}
 pub use Rattle.air_rehearsal.specs.Ending.{CountsAcked, IsAtEnd, IsStampedFor, IsUpload, LooksOnly, moment_in, number_in}
 pub use Rattle.air_rehearsal.specs.Generator.{Answers, Carries, CarriesOne, Draw, Drawing, DrivenBy, Exchange, Exchanges, IsClosed, IsClosedBy, IsDown, IsDrawnBy, Takes, Tries, TriesIf, TriesTimes, Turn, Turns, attempts_of, between, drawn, ending, fate_of, is_none_of, next_fate, next_number, next_state, none_drawn, none_looked, party_of, put_off, question, sent_of, state_after, still_looked, times_of, wish, wish_by, wish_of}
-pub use Rattle.air_rehearsal.specs.Halfway.{FailsToCut, IsHalfway, LeavesAt, StopsApart, StopsBy, StopsCutOff, StopsCutPart, StopsCutting, StopsEvent, StopsOpening, StopsPart, StopsRestarting, TriesToOpen, TriesToStart, WhereRead, stage_of}
 pub use Rattle.air_rehearsal.specs.LaneCalls.{MayDeliver, is_numbered, overtakes}
 pub use Rattle.air_rehearsal.specs.LaneLaws.{ClientLanesLaw, HearingLanesLaw, TickingLanesLaw}
 pub use Rattle.air_rehearsal.specs.Lanes.{AreSentAs, HasLanes, IsLane, IsSentAs, Lanes, beginning, is_ua, lanes_by, lanes_of, replying, replying_each, sending, sending_each, sort_of, timing, timing_each}
@@ -30,10 +30,10 @@ pub use Rattle.air_rehearsal.specs.PartyCalls.{BreaksOff, IsLastGoing}
 pub use Rattle.air_rehearsal.specs.Played.{BenchPlayed, EndsWhole, Opens, PlayedAt, StandInTurn, StaysSo, TellsCuts, first_stage}
 pub use Rattle.air_rehearsal.specs.Playing.{Bench, GoesOn, IsBench, IsPlaying, IsStage, PlaysEvent, bench_of, came_in, client_count, counts_with, cuts_in, waiting_in}
 pub use Rattle.air_rehearsal.specs.Ready.{AreReady, IsReadyParty, IsReadyServer, IsTheirs, IsUp, KeepParties, KeepsAllButLanes, KeepsClients, KeepsParty}
-pub use Rattle.air_rehearsal.specs.Rehearsed.{EndsHalf, HalfStep, IsUnlawful, KeepsPromise, MayGoOn, PromisedInImages, PromisedSince, Rehearsed, StandsAmid, StopsAtOpening, TellAllCuts, WantsMemory, lines_before, until}
+pub use Rattle.air_rehearsal.specs.Rehearsed.{IsUnlawful, KeepsPromise, PromisedInImages, PromisedSince, Rehearsed, TellAllCuts, lines_before, until}
 pub use Rattle.air_rehearsal.specs.Report.{ClientTask, CountOf, IsAcked, IsAckedAndKept, IsReport, Report, all_tasks, came_to, cuts_of, is_fetch, is_question, is_refusal, last_world, tasks_of, times}
 pub use Rattle.air_rehearsal.specs.Seats.{BrokeOff, ChangesAt, Clients, ComesAlways, ComesTo, CountsCut, CountsEvent, GoesApart, IsSeated, MayTake, TookPart, clients_of, with_server}
-pub use Rattle.air_rehearsal.specs.ServerCalls.{AreTimed, ArmsFor, IsCutSo, IsStarted, IsTaken, IsTimed, RepliesAt, SendsByTimer, SendsReplies}
+pub use Rattle.air_rehearsal.specs.ServerCalls.{AnswersEvent, AreTimed, ArmsFor, IsCutSo, IsStarted, IsTaken, IsTimed, RepliesAt, SendsByTimer, SendsReplies, event_of}
 pub use Rattle.air_rehearsal.specs.ServerEvents.{AwaitsServer, CanCount, CountsOn, ServesEvent, Serving, TellsFailure, server_stage, serving, waiting_of}
 pub use Rattle.air_rehearsal.specs.Standing.{Makes, StandsAlike, StandsDuring, StandsNow, least_done}
 pub use Rattle.air_rehearsal.specs.Stations.{IsStationOf, Role, Station, acts, breaks_off, client_at, cut_worlds, for_client, looks_on, place_of, role_of, stations_of, the_server, waiting_after, will_be_cut, with_cut}

@@ -1,7 +1,9 @@
 -- The server took part in the event of a frame that it heard, or of a tick, and sent what it had to send.
 use Rattle.std.proofs.Common.{◌≡◌, ℕ, zero, suc, ◌≤◌, List, [], ◌∷◌, Option, None, Some, IfSome, Result, false, true, refl}
 use Rattle.std.proofs.Common.{sym, ap, subst, ◌∙◌}
-use Rattle.air_rehearsal.proofs.Names.{is_ok, is_some, slice_get, slice_set, ⊤, Cuts, LastsSo, cut_state, Ghosts, DiskFault, store_on, Store, Hears, Server, IsServer, happening, NodeEvent, ticks, MissesLaw, to_server_delivered, DeliversToServer, with_current, IsAllowed, Event, tick_server, to_server, World, next_moment, HearingLanesLaw, TickingLanesLaw, KeepsClients, IsTaken, RepliesAt, SendsByTimer, AwaitsServer, ServesEvent, Serving, PlayParties, PlaysStations, Cut, Party as StoredParty, Stations}
+use Rattle.air_rehearsal.specs.declared.serving.ServerEvent.{ServerEvent}
+use Rattle.air_rehearsal.specs.declared.serving.ServerEvent.TheVariants.{Hear, Tick}
+use Rattle.air_rehearsal.proofs.Names.{AnswersEvent, event_of, is_ok, is_some, slice_get, slice_set, ⊤, Cuts, LastsSo, cut_state, Ghosts, DiskFault, store_on, Store, Hears, Server, IsServer, happening, NodeEvent, ticks, MissesLaw, to_server_delivered, DeliversToServer, with_current, IsAllowed, Event, tick_server, to_server, World, next_moment, HearingLanesLaw, TickingLanesLaw, KeepsClients, IsTaken, RepliesAt, SendsByTimer, AwaitsServer, ServesEvent, Serving, PlayParties, PlaysStations, Cut, Party as StoredParty, Stations}
 use Rattle.air_rehearsal.proofs.Served.{serves-whole}
 use Rattle.air_rehearsal.proofs.ServingDisk.{WentWhole, steady-on, went-whole}
 use Rattle.air_rehearsal.proofs.ServingHeard.{plays-heard, plays-ticked}
@@ -116,3 +118,21 @@ module _ {B : Type 0} (g : Ghosts B) (cuts : Cuts B)
       mid.stations.parties.items new.stations.parties.items stations.parties sent.timed in
       serves-whole g cuts lasts_so is_image counts_now world tick_server old mid new answer awaits keeps.none taken whole
       memory sent.frames sent.last sent.empties sent.settles keeps.disk keeps.store keeps.me keeps.k keeps.uploads keeps.cut plays
+
+  -- whichever event it was
+  pub serves-answered :
+      (heard : HearingLanesLaw) (ticked : TickingLanesLaw) (event : ServerEvent) (old mid new : Serving B)
+      (answer : Result ⊤ DiskFault) → AwaitsServer g cuts world old → IsAllowed world (event_of event)
+      → KeepsSo old mid new → IsTaken g world (event_of event) old mid answer → is_ok answer ≡ true
+      → cuts.is_starved mid.disk ≡ false
+      → ((store : Store) (it : Server) → IsServer store mid.server it
+      → AnswersEvent event store it new.server mid.stations.parties.items new.stations.parties.items)
+      → ServesEvent g cuts world (event_of event) old new
+  serves-answered heard ticked (Hear c place) old mid new answer awaits allowed keeps taken ok memory answers =
+      serves-heard heard c place old mid new answer awaits allowed keeps taken ok memory
+      (λ store it party is at. answers store it is party at)
+  serves-answered heard ticked Tick old mid new answer awaits allowed keeps taken ok memory answers =
+      serves-ticked ticked old mid new answer awaits keeps
+      (subst (λ (n : NodeEvent). Hears g (happening world.server n) old.server mid.server old.disk mid.disk answer)
+      taken.takes.0 taken.hears)
+      (subst (λ (w : World). PlaysStations mid.stations w) taken.takes.1 taken.plays) ok memory answers

@@ -6,16 +6,12 @@ use Rattle.disk_model.specs.declared.disk.Disk.{Ghosts}
 use Rattle.ftl0_server.specs.ServerState.{ServerState}
 use Rattle.air_schedule.specs.Events.{event_value}
 use Rattle.air_schedule.specs.declared.event.Event.{Event as StoredEvent}
-use Rattle.air_world.specs.Lawful.{IsAllowed}
-use Rattle.air_world.specs.Schedule.{Event, IsInRange, Schedule, to_client, to_server}
+use Rattle.air_world.specs.Schedule.{Event, IsInRange, to_client, to_server}
 use Rattle.air_world.specs.Sound.{Sound}
 use Rattle.air_world.specs.World.{World}
-use Rattle.air_rehearsal.specs.Drawn.{IsDrawnFor}
 use Rattle.air_rehearsal.specs.Generator.{Draw, Drawing, state_after}
-use Rattle.air_rehearsal.specs.Halfway.{StopsEvent}
 use Rattle.air_rehearsal.specs.Playing.{Bench, IsPlaying, PlaysEvent, bench_of}
 use Rattle.air_rehearsal.specs.Ready.{AreReady, IsReadyServer}
-use Rattle.air_rehearsal.specs.Rehearsed.{WantsMemory}
 use Rattle.air_rehearsal.specs.Report.{last_world}
 use Rattle.air_rehearsal.specs.ServerEvents.{CanCount, CountsOn}
 use Rattle.air_rehearsal.specs.Worlds.{PlaysStations}
@@ -56,28 +52,6 @@ module _ {B : Type 0} (g : Ghosts B) (cuts : Cuts B) where
         → Moves
         (record { state = old.state; world = world; events = events ++ later; worlds = worlds ++ rest })
         (record { state = new.state; world = last_world world worlds; events = later; worlds = rest })
-
-  -- Some events were played from this world on, and memory was wanting in a next one, which could come.
-  pub record Halts (world : World) (old : Bench B) (bench_now : List B) : Type 0 where
-    pub events : List Event
-    pub worlds : List World
-    pub amid : Bench B
-    pub plays : PlaysEach world events worlds old amid
-    pub event : Event
-    pub allowed : IsAllowed (last_world world worlds) event
-    pub stops : StopsEvent g cuts amid.stations (last_world world worlds) event (amid.disk ∷ amid.disks) bench_now
-
-  -- What a call of a driver leaves of the disks where it fails, in whichever world the stations play.
-  pub record StopsDriving (old : Bench B) (disk_now : B) (disks_now : List B) : Type 0 where
-    pub faults : CountsOn g old.disk disk_now
-    pub halts :
-        (world : World) → IsPlaying g cuts world old → CanCount g disk_now → Halts world old (disk_now ∷ disks_now)
-
-  -- Memory was wanting in some schedule of those clients for which schedules are drawn.
-  pub record StopsDrawn (bench bench_now : List B) : Type 0 where
-    pub schedule : Schedule
-    pub drawn_for : IsDrawnFor schedule
-    pub wants : WantsMemory g cuts schedule bench bench_now
 
   -- What each call of a driver does: it leaves the stations ready, and in whichever world they play, such events come.
   pub record Drives (Moves : Drawing → Drawing → Type 0) (old new : Driven B) : Type 0 where

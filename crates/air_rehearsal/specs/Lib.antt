@@ -1,4 +1,5 @@
 pub mod Asking
+pub mod Breaches
 pub mod Chain
 pub mod Counting
 pub mod Course
@@ -6,7 +7,6 @@ pub mod Drawn
 pub mod Driving
 pub mod Ending
 pub mod Generator
-pub mod Halfway
 pub mod LaneCalls
 pub mod LaneLaws
 pub mod Lanes

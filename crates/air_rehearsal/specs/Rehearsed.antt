@@ -1,4 +1,4 @@
--- What a rehearsal of a schedule comes to: its report; the event that may not come; or want of memory.
+-- What a rehearsal of a schedule comes to: its report, or the event that may not come.
 use Rattle.std.specs.Prelude.{◌≡◌, ◌⊎◌, ℕ, ◌+◌, ◌<◌, List, [], ◌∷◌, ◌++◌, length, slice_get, Some, ⊤}
 use Rattle.std.specs.List.{AllByRecursion}
 use Rattle.disk_model.specs.Cuts.{Cuts}
@@ -14,7 +14,6 @@ use Rattle.air_world.specs.Schedule.{Event, Schedule}
 use Rattle.air_world.specs.World.{World, first_world}
 use Rattle.air_rehearsal.specs.Chain.{Stage}
 use Rattle.air_rehearsal.specs.Counting.{Tells}
-use Rattle.air_rehearsal.specs.Halfway.{IsHalfway, WhereRead}
 use Rattle.air_rehearsal.specs.Played.{BenchPlayed, EndsWhole, PlayedAt, StaysSo, TellsCuts, first_stage}
 use Rattle.air_rehearsal.specs.Report.{IsReport, Report, last_world}
 use Rattle.air_rehearsal.specs.ServerEvents.{CanCount}
@@ -44,23 +43,6 @@ abbrev pub TellAllCuts : {B : Type 0} → Cuts B → Schedule → List World →
 TellAllCuts cuts schedule worlds bench_now =
     (station : Station) (disk : _) → IsStationOf schedule station
     → slice_get bench_now (place_of station) ≡ Some disk → TellsCuts cuts station schedule worlds disk
-
--- the octets stand for what the station keeps in this world, or for that after the first of the next event's commands
-abbrev pub StandsAmid : Station → World → List Event → List ℕ → Type 0
-StandsAmid station world [] image = StandsFor station world image
-StandsAmid station world (event ∷ later) image =
-    StandsFor station world image ⊎ StandsDuring station world event image
-
--- the station's disk is in use in the next of these events; after the last one the server's is
-abbrev pub IsInUse : Station → List Event → Type 0
-IsInUse the_server [] = ⊤
-IsInUse (client_at c) [] = ⊥
-IsInUse station (event ∷ later) = (role_of station event ≡ acts) ⊎ (role_of station event ≡ breaks_off)
-
--- the first of these events, if there is one, may come
-abbrev pub MayGoOn : World → List Event → Type 0
-MayGoOn world [] = ⊤
-MayGoOn world (event ∷ later) = IsAllowed world event
 
 module _ {B : Type 0} (g : Ghosts B) (cuts : Cuts B) where
   -- what is promised of the stage's world holds in whatever a crash since then leaves of the disk that this one became
@@ -102,37 +84,3 @@ module _ {B : Type 0} (g : Ghosts B) (cuts : Cuts B) where
     pub refused : ¬ IsAllowed (last_world (first_world schedule) worlds) event
     pub line_is : line ≡ lines_before schedule + length front + 1
     pub played : BenchPlayed g cuts StaysSo (until front schedule) worlds bench bench_now
-
-  -- Memory was wanting in mid-event, or at the end. A crash since the last stage leaves what stands for its world, or
-  -- for that after the first of the next event's commands.
-  abbrev pub HalfStep : Station → List Event → Stage B → B → Type 0
-  HalfStep station rest last disk_now = IsHalfway g cuts (StandsAmid station last.world rest) last.disk disk_now
-
-  -- A disk that is in use is amid it, unless it is the server's and a read of it failed; and no other one is touched.
-  abbrev pub EndsHalf : List Event → Station → Stage B → B → Type 0
-  EndsHalf rest station last disk_now =
-      (IsInUse station rest × WhereRead g station last.disk disk_now (HalfStep station rest last disk_now))
-      ⊎ (disk_now ≡ last.disk)
-
-  -- Memory was wanting while the stations were made: each disk is amid that.
-  pub record StopsAtOpening (schedule : Schedule) (bench bench_now : List B) : Type 0 where
-    pub stations :
-        (station : Station) (disk disk_now : B) → IsStationOf schedule station
-        → slice_get bench (place_of station) ≡ Some disk → slice_get bench_now (place_of station) ≡ Some disk_now
-        → HalfStep station [] (first_stage schedule disk) disk_now
-    pub others : (place : ℕ) → length schedule.calls < place → slice_get bench_now place ≡ slice_get bench place
-    pub as_many : length bench_now ≡ length bench
-
-  -- Memory was wanting after these events were played. The next one, if there is one, could come.
-  pub record StopsAmid (schedule : Schedule) (bench bench_now : List B) : Type 0 where
-    pub front : List Event
-    pub rest : List Event
-    pub split : schedule.events ≡ front ++ rest
-    pub worlds : List World
-    pub run : IsRun (until front schedule) worlds
-    pub next : MayGoOn (last_world (first_world schedule) worlds) rest
-    pub played : BenchPlayed g cuts (EndsHalf rest) (until front schedule) worlds bench bench_now
-
-  abbrev pub WantsMemory : Schedule → List B → List B → Type 0
-  WantsMemory schedule bench bench_now =
-      StopsAtOpening schedule bench bench_now ⊎ StopsAmid schedule bench bench_now

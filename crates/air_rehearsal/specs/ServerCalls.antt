@@ -1,5 +1,5 @@
 -- What the calls do that an event of the server is made of.
-use Rattle.std.specs.Prelude.{◌≡◌, ℕ, ◌-◌, List, length, filter, slice_get, slice_set, false}
+use Rattle.std.specs.Prelude.{◌≡◌, ℕ, suc, ◌-◌, List, length, filter, slice_get, slice_set, false}
 use Rattle.std.specs.Prelude.{Option, None, Some, IfSome, Result, ⊤}
 use Rattle.ax25_frames.specs.FrameText.{FrameValue}
 use Rattle.ax25_link.specs.Window.{window_of}
@@ -17,7 +17,7 @@ use Rattle.ftl0_server.specs.ServerState.{IsServer, ServerState}
 use Rattle.ftl0_server.specs.ServerStep.{Empties, happening}
 use Rattle.turn_loop.specs.Events.{NodeEvent}
 use Rattle.air_world.specs.Events.{ServerTakes}
-use Rattle.air_world.specs.Schedule.{Event}
+use Rattle.air_world.specs.Schedule.{Event, tick_server, to_server}
 use Rattle.air_world.specs.World.{World, store_blocks}
 use Rattle.air_rehearsal.specs.Chain.{StartsAgain}
 use Rattle.air_rehearsal.specs.Lanes.{HasLanes, Lanes, replying_each, timing_each}
@@ -28,7 +28,14 @@ use Rattle.air_rehearsal.specs.Worlds.{PlaysStations}
 use Rattle.air_rehearsal.specs.declared.attempt.Attempt.{Attempt}
 use Rattle.air_rehearsal.specs.declared.cuts.Cut.{Cut}
 use Rattle.air_rehearsal.specs.declared.party.Party.{Party}
+use Rattle.air_rehearsal.specs.declared.serving.ServerEvent.{ServerEvent}
+use Rattle.air_rehearsal.specs.declared.serving.ServerEvent.TheVariants.{Hear, Tick}
 use Rattle.air_rehearsal.specs.declared.stations.Stations.{Stations}
+
+-- the event of a world that comes to the server so
+abbrev pub event_of : ServerEvent → Event
+event_of (Hear c place) = to_server (suc c) (suc place)
+event_of Tick = tick_server
 
 -- The server starts from its disk, without sessions: the store that the disk holds then is the one that the content
 -- stood for, and that each image stands for.
@@ -110,3 +117,9 @@ pub record SendsByTimer (store : Store) (it : Server) (now : ServerState) (parti
   pub empties : Empties it frames last
   pub settles : IsServer store now (settled last)
   pub timed : AreTimed frames parties parties_now
+
+-- What the server sends after such an event: replies to the client that it heard, or frames by its timer.
+abbrev pub AnswersEvent : ServerEvent → Store → Server → ServerState → List Party → List Party → Type 0
+AnswersEvent (Hear c place) store it now parties parties_now =
+    (party : Party) → slice_get parties c ≡ Some party → RepliesAt store c it now party parties parties_now
+AnswersEvent Tick store it now parties parties_now = SendsByTimer store it now parties parties_now

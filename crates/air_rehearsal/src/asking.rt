@@ -4,8 +4,9 @@ ghost use Rattle.std.specs.Prelude.{◌≡◌, IfOk};
 ghost use Rattle.sha2.specs.Sha256.{sha256};
 ghost use Rattle.air_world.specs.Files.Uploads.{body_octets, upload_file};
 
+use crate::stopped::{Breach, Stopped};
 use pfh_items::{AX25_UPLOADER, UPLOAD_TIME};
-use pfh_writer::HeaderBuilder;
+use pfh_writer::{FinishRefusal, HeaderBuilder};
 use px_base::{FileBytes, OutOfMemory};
 use sha2::{Digest, Sha256};
 use std::alloc::Global;
@@ -20,20 +21,17 @@ pub(crate) struct Upload {
 }
 
 /// The file of the upload of this number, with a body of so many octets. Takes memory.
-pub(crate) fn file_of(alloc: Global, upload: u32, octets: u16) -> Result<FileBytes, OutOfMemory>
+pub(crate) fn file_of(alloc: Global, upload: u32, octets: u16) -> Result<FileBytes, Stopped>
     ensures { IfOk result (λ file. file ≡ upload_file upload octets) }
 {
     let body = body_of(alloc, upload, octets)?;
     let mut builder = HeaderBuilder::new(alloc, *b"FILE    ", *b"BIN", 0, 0, 0, 0)?;
-    let Ok(()) = builder.put(AX25_UPLOADER, b"      ") else {
-        return Err(OutOfMemory);
-    };
-    let Ok(()) = builder.put(UPLOAD_TIME, &[0; 4]) else {
-        return Err(OutOfMemory);
-    };
+    builder.put(AX25_UPLOADER, b"      ")?;
+    builder.put(UPLOAD_TIME, &[0; 4])?;
     match builder.finish(body.as_slice()) {
         Ok(file) => Ok(file),
-        Err(_) => Err(OutOfMemory),
+        Err(FinishRefusal::OutOfMemory) => Err(Stopped::OutOfMemory),
+        Err(_) => Err(Stopped::Broken(Breach::NotMade)),
     }
 }
 

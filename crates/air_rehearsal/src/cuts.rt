@@ -1,8 +1,8 @@
 //! The cuts of power.
 
-ghost use Rattle.std.specs.Prelude.{◌≡◌, ◌⊎◌, ◌-◌, OnErr, OnOk, Some};
+ghost use Rattle.std.specs.Prelude.{◌-◌, OnOk, Some};
 ghost use Rattle.disk_model.specs.Cuts.{ArmsOnly, cuts_by};
-ghost use Rattle.air_rehearsal.specs.Halfway.{FailsToCut};
+ghost use Rattle.air_rehearsal.specs.ServerEvents.{CountsOn};
 ghost use Rattle.air_rehearsal.specs.Strikes.{Strikes};
 
 use disk_model::CutDisk;
@@ -30,8 +30,7 @@ impl Cut {
     pub(crate) fn strike<B: CutDisk>(&self, disk: &mut B) -> Result<(), OutOfMemory>
         ensures strikes { OnOk result (Strikes B.Disk (cuts_by B.restarts B.arming B.plain B.is_starved)
             disk.old disk.new) }
-        ensures fails { OnErr result ((disk.new ≡ disk.old)
-            ⊎ FailsToCut B.Disk (cuts_by B.restarts B.arming B.plain B.is_starved) disk.old disk.new) }
+        ensures faults { CountsOn B.Disk disk.old disk.new }
     {
         if disk.starved() {
             return Err(OutOfMemory);

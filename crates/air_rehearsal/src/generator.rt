@@ -1,7 +1,7 @@
 //! A rehearsal whose events are drawn by a number.
 
 ghost use Rattle.std.specs.Prelude.{◌≡◌, ◌↔◌, ◌⊎◌, ◌+◌, ◌-◌, ◌%◌, ◌^◌, ◌<◌, ◌≤◌, [], ◌∷◌, length, None, IfOk, IsTrue};
-ghost use Rattle.std.specs.Prelude.{OnErr};
+ghost use Rattle.std.specs.Prelude.{ℕ, Err};
 ghost use Rattle.std.specs.Option.{option_map};
 ghost use Rattle.px_base.specs.CallSign.{CallText};
 ghost use Rattle.disk_model.specs.Cuts.{AreFresh, cuts_by};
@@ -9,7 +9,7 @@ ghost use Rattle.air_schedule.specs.Events.{event_value};
 ghost use Rattle.air_world.specs.Sound.{Sound};
 ghost use Rattle.air_world.specs.World.{World};
 ghost use Rattle.air_rehearsal.specs.Drawn.{drawn_calls, rounds};
-ghost use Rattle.air_rehearsal.specs.Driving.{Drives, IsDraw, IsFitEvent, IsReadyBench, StopsDrawn, StopsDriving};
+ghost use Rattle.air_rehearsal.specs.Driving.{Drives, IsDraw, IsFitEvent, IsReadyBench};
 ghost use Rattle.air_rehearsal.specs.Driving.{delivery_of, driven_by};
 ghost use Rattle.air_rehearsal.specs.Generator.{Answers, Carries, DrivenBy, Exchange, IsClosed, TriesIf, TriesTimes};
 ghost use Rattle.air_rehearsal.specs.Generator.{Turn, TurnExchanges, Turns, attempts_of as attempts_in, between};
@@ -20,15 +20,17 @@ ghost use Rattle.air_rehearsal.specs.Ready.{AreReady};
 ghost use Rattle.air_rehearsal.specs.Rehearsed.{CanTell};
 ghost use Rattle.air_rehearsal.specs.Worlds.{PlaysStations};
 
+use crate::rehearsing::{RehearseStop, ended};
 use crate::report::Report;
 use crate::stations::Stations;
+use crate::stopped::{Breach, Stopped};
 use air_schedule::Event;
 use air_world::laws::{parts_law, schedule_law, sound_law, stores_law};
 use disk_model::CutDisk;
 use file_store_model::laws::follows_law;
 use ftl0_server::Server;
+use px_base::Call;
 use px_base::laws::one_call;
-use px_base::{Call, OutOfMemory};
 use std::alloc::Global;
 
 /// How many I frames of each link may be outstanding.
@@ -183,10 +185,10 @@ struct Driver {
 /// delivered twice or delivered late, until the client is done, or has had 20 exchanges. At the end it may be broken
 /// off, or a cut of its power or the server's may wait for the next event.
 ///
-/// One clause says of the report what [`rehearse`] says of a schedule, and that the schedule's events are those which
-/// the number draws. Where memory was wanting the other one says of some schedule for the same clients what
-/// [`rehearse`] says then. Both hold where the count of the server's disk's failed writes doesn't stand at its last
-/// number at the end.
+/// The clause says of the report what [`rehearse`] says of a schedule, and that the schedule's events are those which
+/// the number draws. It holds if the count of the server's disk's failed writes doesn't stand at its last number at the
+/// end. After `OutOfMemory` and `Broken` nothing is said of the disks. `Unlawful`
+/// never comes: an event that may not come isn't played.
 ///
 /// [`rehearse`]: crate::rehearse
 pub fn drive<B: CutDisk>(
@@ -194,16 +196,18 @@ pub fn drive<B: CutDisk>(
     seed: u64,
     count: u32,
     bench: &mut Vec<B>,
-) -> Result<Report, OutOfMemory>
+) -> Result<Report, RehearseStop>
     requires { AreFresh B.Disk (cuts_by B.restarts B.arming B.plain B.is_starved) bench.old.items }
     ensures driven { IfOk result (λ report. CanTell B.Disk bench.new.items →
         DrivenBy B.Disk (cuts_by B.restarts B.arming B.plain B.is_starved) seed count bench.old.items bench.new.items
         report) }
-    ensures wants_memory { OnErr result (CanTell B.Disk bench.new.items →
-        StopsDrawn B.Disk (cuts_by B.restarts B.arming B.plain B.is_starved) bench.old.items bench.new.items) }
+    ensures lawful { (line : ℕ) → ¬ (result ≡ Err (RehearseStop.Unlawful line)) }
 {
     let Some((disk, disks)) = bench.as_mut_slice().split_first_mut() else {
-        return Err(OutOfMemory);
+        return Err(RehearseStop::Broken {
+            line: 0,
+            what: Breach::NoClient,
+        });
     };
     drive_over(alloc, seed, count, disk, disks)
 }
@@ -215,34 +219,48 @@ fn drive_over<B: CutDisk>(
     count: u32,
     disk: &mut B,
     disks: &mut [B],
-) -> Result<Report, OutOfMemory>
+) -> Result<Report, RehearseStop>
     requires { AreFresh B.Disk (cuts_by B.restarts B.arming B.plain B.is_starved) (disk.old ∷ disks.old) }
     ensures driven { IfOk result (λ report. CanTell B.Disk (disk.new ∷ disks.new) →
         DrivenBy B.Disk (cuts_by B.restarts B.arming B.plain B.is_starved) seed count (disk.old ∷ disks.old)
         (disk.new ∷ disks.new) report) }
-    ensures wants_memory { OnErr result (CanTell B.Disk (disk.new ∷ disks.new) →
-        StopsDrawn B.Disk (cuts_by B.restarts B.arming B.plain B.is_starved) (disk.old ∷ disks.old)
-        (disk.new ∷ disks.new)) }
+    ensures lawful { (line : ℕ) → ¬ (result ≡ Err (RehearseStop.Unlawful line)) }
 {
     sound_law();
     parts_law();
     stores_law();
     schedule_law();
     follows_law();
-    let calls = calls(alloc)?;
-    let stations = Stations::open(alloc, disks, WINDOW, calls.as_slice())?;
-    let server = stations.start(disk)?;
+    let calls = match calls(alloc) {
+        Ok(calls) => calls,
+        Err(stopped) => return Err(ended(stopped, 0, disk, disks)),
+    };
+    let stations = match Stations::open(alloc, disks, WINDOW, calls.as_slice()) {
+        Ok(stations) => stations,
+        Err(stopped) => return Err(ended(stopped, 0, disk, disks)),
+    };
+    let server = match stations.start(disk) {
+        Ok(server) => server,
+        Err(stopped) => return Err(ended(stopped, 0, disk, disks)),
+    };
     let mut driver = Driver {
         draws: Draws { state: seed },
         stations,
     };
-    let server = driver.rounds(server, disk, disks, count)?;
-    server.close();
-    driver.stations.end(disk)
+    match driver.rounds(server, disk, disks, count) {
+        Ok(server) => {
+            server.close();
+            match driver.stations.end(disk) {
+                Ok(report) => Ok(report),
+                Err(stopped) => Err(ended(stopped, driver.stations.report.events, disk, disks)),
+            }
+        }
+        Err(stopped) => Err(ended(stopped, driver.stations.report.events, disk, disks)),
+    }
 }
 
 /// The calls of the clients. Takes memory.
-fn calls(alloc: Global) -> Result<Vec<Call>, OutOfMemory>
+fn calls(alloc: Global) -> Result<Vec<Call>, Stopped>
     ensures { IfOk result (λ calls. calls.items ≡ drawn_calls) }
 {
     one_call();
@@ -255,12 +273,12 @@ fn calls(alloc: Global) -> Result<Vec<Call>, OutOfMemory>
 }
 
 /// The call of this text.
-fn read_call(text: &str) -> Result<Call, OutOfMemory>
+fn read_call(text: &str) -> Result<Call, Stopped>
     ensures { IfOk result (λ call. CallText call text.now) }
 {
     match Call::read(text) {
         Ok(call) => Ok(call),
-        Err(_) => Err(OutOfMemory),
+        Err(_) => Err(Stopped::Broken(Breach::NotMade)),
     }
 }
 
@@ -272,13 +290,11 @@ impl Driver {
         disk: &mut B,
         disks: &mut [B],
         count: u32,
-    ) -> Result<Server, OutOfMemory>
+    ) -> Result<Server, Stopped>
         requires { IsReadyBench B.Disk (bench_of self.old.stations server disk.old disks.old) }
         ensures drives { IfOk result (λ later. Drives B.Disk (cuts_by B.restarts B.arming B.plain B.is_starved)
             (Turns (rounds count)) (driven_by self.old server disk.old disks.old)
             (driven_by self.new later disk.new disks.new)) }
-        ensures stops { OnErr result (StopsDriving B.Disk (cuts_by B.restarts B.arming B.plain B.is_starved)
-            (bench_of self.old.stations server disk.old disks.old) disk.new disks.new) }
     {
         let mut server = server;
         for _ in 0..count {
@@ -293,13 +309,11 @@ impl Driver {
         server: Server,
         disk: &mut B,
         disks: &mut [B],
-    ) -> Result<Server, OutOfMemory>
+    ) -> Result<Server, Stopped>
         requires { IsReadyBench B.Disk (bench_of self.old.stations server disk.old disks.old) }
         ensures drives { IfOk result (λ later. Drives B.Disk (cuts_by B.restarts B.arming B.plain B.is_starved)
             (Turns (rounds 1)) (driven_by self.old server disk.old disks.old)
             (driven_by self.new later disk.new disks.new)) }
-        ensures stops { OnErr result (StopsDriving B.Disk (cuts_by B.restarts B.arming B.plain B.is_starved)
-            (bench_of self.old.stations server disk.old disks.old) disk.new disks.new) }
     {
         let server = self.turn(server, disk, disks, 1)?;
         let server = self.turn(server, disk, disks, 2)?;
@@ -313,13 +327,11 @@ impl Driver {
         disk: &mut B,
         disks: &mut [B],
         client: u64,
-    ) -> Result<Server, OutOfMemory>
+    ) -> Result<Server, Stopped>
         requires { IsReadyBench B.Disk (bench_of self.old.stations server disk.old disks.old) }
         ensures drives { IfOk result (λ later. Drives B.Disk (cuts_by B.restarts B.arming B.plain B.is_starved)
             (Turn client) (driven_by self.old server disk.old disks.old)
             (driven_by self.new later disk.new disks.new)) }
-        ensures stops { OnErr result (StopsDriving B.Disk (cuts_by B.restarts B.arming B.plain B.is_starved)
-            (bench_of self.old.stations server disk.old disks.old) disk.new disks.new) }
     {
         let wish = self.wish(client);
         let server = self.play(server, disk, disks, wish)?;
@@ -335,14 +347,12 @@ impl Driver {
         disk: &mut B,
         disks: &mut [B],
         event: Option<Event>,
-    ) -> Result<Server, OutOfMemory>
+    ) -> Result<Server, Stopped>
         requires ready { IsReadyBench B.Disk (bench_of self.old.stations server disk.old disks.old) }
         requires fits { IsFitEvent self.old.stations event }
         ensures drives { IfOk result (λ later. Drives B.Disk (cuts_by B.restarts B.arming B.plain B.is_starved)
             (TriesIf (option_map event_value event)) (driven_by self.old server disk.old disks.old)
             (driven_by self.new later disk.new disks.new)) }
-        ensures stops { OnErr result (StopsDriving B.Disk (cuts_by B.restarts B.arming B.plain B.is_starved)
-            (bench_of self.old.stations server disk.old disks.old) disk.new disks.new) }
     {
         let Some(event) = event else {
             return Ok(server);
@@ -387,13 +397,11 @@ impl Driver {
         disk: &mut B,
         disks: &mut [B],
         client: u64,
-    ) -> Result<Server, OutOfMemory>
+    ) -> Result<Server, Stopped>
         requires { IsReadyBench B.Disk (bench_of self.old.stations server disk.old disks.old) }
         ensures drives { IfOk result (λ later. Drives B.Disk (cuts_by B.restarts B.arming B.plain B.is_starved)
             (TurnExchanges client) (driven_by self.old server disk.old disks.old)
             (driven_by self.new later disk.new disks.new)) }
-        ensures stops { OnErr result (StopsDriving B.Disk (cuts_by B.restarts B.arming B.plain B.is_starved)
-            (bench_of self.old.stations server disk.old disks.old) disk.new disks.new) }
     {
         let mut server = server;
         let mut looked = Looked::none(&self.stations, client);
@@ -416,13 +424,11 @@ impl Driver {
         disks: &mut [B],
         client: u64,
         looked: &mut Looked,
-    ) -> Result<Server, OutOfMemory>
+    ) -> Result<Server, Stopped>
         requires { IsReadyBench B.Disk (bench_of self.old.stations server disk.old disks.old) }
         ensures drives { IfOk result (λ later. Drives B.Disk (cuts_by B.restarts B.arming B.plain B.is_starved)
             (Exchange client looked.old looked.new) (driven_by self.old server disk.old disks.old)
             (driven_by self.new later disk.new disks.new)) }
-        ensures stops { OnErr result (StopsDriving B.Disk (cuts_by B.restarts B.arming B.plain B.is_starved)
-            (bench_of self.old.stations server disk.old disks.old) disk.new disks.new) }
     {
         let before = *looked;
         looked.to_server = count_to_server(&self.stations, client);
@@ -457,13 +463,11 @@ impl Driver {
         disk: &mut B,
         disks: &mut [B],
         client: u64,
-    ) -> Result<Server, OutOfMemory>
+    ) -> Result<Server, Stopped>
         requires { IsReadyBench B.Disk (bench_of self.old.stations server disk.old disks.old) }
         ensures drives { IfOk result (λ later. Drives B.Disk (cuts_by B.restarts B.arming B.plain B.is_starved)
             (Answers client [] []) (driven_by self.old server disk.old disks.old)
             (driven_by self.new later disk.new disks.new)) }
-        ensures stops { OnErr result (StopsDriving B.Disk (cuts_by B.restarts B.arming B.plain B.is_starved)
-            (bench_of self.old.stations server disk.old disks.old) disk.new disks.new) }
     {
         let server = self.play(server, disk, disks, Some(Event::TickClient { client }))?;
         self.play(server, disk, disks, Some(Event::TickServer))
@@ -479,13 +483,11 @@ impl Driver {
         way: Way,
         from: usize,
         to: usize,
-    ) -> Result<Server, OutOfMemory>
+    ) -> Result<Server, Stopped>
         requires { IsReadyBench B.Disk (bench_of self.old.stations server disk.old disks.old) }
         ensures drives { IfOk result (λ later. Drives B.Disk (cuts_by B.restarts B.arming B.plain B.is_starved)
             (Carries (delivery_of way client) None (between from to)) (driven_by self.old server disk.old disks.old)
             (driven_by self.new later disk.new disks.new)) }
-        ensures stops { OnErr result (StopsDriving B.Disk (cuts_by B.restarts B.arming B.plain B.is_starved)
-            (bench_of self.old.stations server disk.old disks.old) disk.new disks.new) }
     {
         let mut server = server;
         let mut late = None;
@@ -509,14 +511,12 @@ impl Driver {
         way: Way,
         place: usize,
         times: u32,
-    ) -> Result<Server, OutOfMemory>
+    ) -> Result<Server, Stopped>
         requires ready { IsReadyBench B.Disk (bench_of self.old.stations server disk.old disks.old) }
         requires place { place < 2 ^ 64 - 1 }
         ensures drives { IfOk result (λ later. Drives B.Disk (cuts_by B.restarts B.arming B.plain B.is_starved)
             (TriesTimes times (delivery_of way client (place + 1))) (driven_by self.old server disk.old disks.old)
             (driven_by self.new later disk.new disks.new)) }
-        ensures stops { OnErr result (StopsDriving B.Disk (cuts_by B.restarts B.arming B.plain B.is_starved)
-            (bench_of self.old.stations server disk.old disks.old) disk.new disks.new) }
     {
         let mut server = server;
         for _ in 0..times {

@@ -13,7 +13,6 @@ ghost use Rattle.air_world.specs.Sound.{Sound};
 ghost use Rattle.air_world.specs.World.{World, store_blocks};
 ghost use Rattle.air_rehearsal.specs.Counting.{EndsSo};
 ghost use Rattle.air_rehearsal.specs.Ending.{CountsAcked, IsAtEnd, IsStampedFor, IsUpload, LooksOnly, moment_in};
-ghost use Rattle.air_rehearsal.specs.Halfway.{TriesToStart};
 ghost use Rattle.air_rehearsal.specs.Report.{all_tasks, tasks_of};
 ghost use Rattle.air_rehearsal.specs.Standing.{StandsNow};
 ghost use Rattle.air_rehearsal.specs.Stations.{the_server};
@@ -24,6 +23,7 @@ use crate::asking::file_of;
 use crate::party::Party;
 use crate::report::Report;
 use crate::stations::{LIMITS, Stations};
+use crate::stopped::{Breach, Stopped};
 use air_world::laws::parts_law;
 use client_notes::{Noted, TaskNumber};
 use disk_model::Disk;
@@ -32,23 +32,23 @@ use file_store::{FileStore, Info};
 use pfh_items::UPLOAD_TIME;
 use pfh_reader::check;
 use pfh_writer::stamp;
-use px_base::{Call, FileBytes, FileNumber, Moment, OutOfMemory, le32};
+use px_base::{Call, FileBytes, FileNumber, Moment, le32};
 use std::alloc::Global;
 
 impl Stations {
     /// What came of the rehearsal, in whose world the server is closed: its store is recovered from its disk. Takes
     /// memory.
-    pub(crate) fn end<D: Disk>(&self, disk: &mut D) -> Result<Report, OutOfMemory>
+    pub(crate) fn end<D: Disk>(&self, disk: &mut D) -> Result<Report, Stopped>
         ensures ends { IfOk result (λ report. (world : World) → Sound world → PlaysStations self.now world
             → world.server.store.blocks ≡ store_blocks → StandsNow D.Disk the_server world disk.old
             → EndsSo D.Disk world self.now.report disk.old disk.new report) }
-        ensures tries { TriesToStart D.Disk the_server disk.old disk.new }
+        ensures lasts { D.lasts disk.old disk.new }
     {
         let mut report = self.report;
-        let Ok(store) = FileStore::recover(self.alloc, disk, LIMITS) else {
-            return Err(OutOfMemory);
+        let mut store = match FileStore::recover(self.alloc, disk, LIMITS) {
+            Ok(store) => store,
+            Err(fault) => return Err(Stopped::of_store(fault)),
         };
-        let mut store = store;
         state_law(&store);
         self.count_all(&mut store, disk, &mut report)?;
         Ok(report)
@@ -60,7 +60,7 @@ impl Stations {
         store: &mut FileStore,
         disk: &mut D,
         report: &mut Report,
-    ) -> Result<(), OutOfMemory>
+    ) -> Result<(), Stopped>
         requires { IsReady D.Disk store.old disk.old }
         ensures looks { LooksOnly D.Disk store.old store.new disk.old disk.new }
         ensures counts { OnOk result ((world : World) → Sound world → PlaysStations self.now world
@@ -80,7 +80,7 @@ impl Stations {
         disk: &mut D,
         report: &mut Report,
         party: &Party,
-    ) -> Result<(), OutOfMemory>
+    ) -> Result<(), Stopped>
         requires { IsReady D.Disk store.old disk.old }
         ensures looks { LooksOnly D.Disk store.old store.new disk.old disk.new }
         ensures counts { OnOk result ((seat : Seat) → IsAtEnd D.Disk self.now party.now store.old disk.old seat
@@ -100,7 +100,7 @@ impl Stations {
         report: &mut Report,
         party: &Party,
         task: TaskNumber,
-    ) -> Result<(), OutOfMemory>
+    ) -> Result<(), Stopped>
         requires ready { IsReady D.Disk store.old disk.old }
         requires some { 1 ≤ task }
         ensures looks { LooksOnly D.Disk store.old store.new disk.old disk.new }
@@ -127,7 +127,7 @@ impl Stations {
         party: &Party,
         task: TaskNumber,
         number: FileNumber,
-    ) -> Result<bool, OutOfMemory>
+    ) -> Result<bool, Stopped>
         requires ready { IsReady D.Disk store.old disk.old }
         requires some { 1 ≤ task }
         ensures looks { LooksOnly D.Disk store.old store.new disk.old disk.new }
@@ -149,7 +149,7 @@ impl Stations {
         &self,
         party: &Party,
         task: TaskNumber,
-    ) -> Result<Option<FileBytes>, OutOfMemory>
+    ) -> Result<Option<FileBytes>, Stopped>
         requires { 1 ≤ task }
         ensures { IfOk result (λ file. (world : World) (played : PlayedParty) → PlaysStations self.now world
             → PlaysParty party.now played → file_of_task world.files played task ≡ file) }
@@ -173,7 +173,7 @@ fn octets_of<D: Disk>(
     disk: &mut D,
     number: FileNumber,
     caller: Call,
-) -> Result<Vec<u8>, OutOfMemory>
+) -> Result<Vec<u8>, Stopped>
     requires { IsReady D.Disk store.old disk.old }
     ensures looks { LooksOnly D.Disk store.old store.new disk.old disk.new }
     ensures octets { IfOk result (λ octets. IsKnown D.Disk disk.old → (file : List ℕ)
@@ -196,7 +196,7 @@ fn read_all<D: Disk>(
     disk: &mut D,
     number: FileNumber,
     info: Info,
-) -> Result<Vec<u8>, OutOfMemory>
+) -> Result<Vec<u8>, Stopped>
     requires ready { IsReady D.Disk store.old disk.old }
     requires there { option_map info_of (entry_of (store_in store.old) number) ≡ Some info }
     requires complete { info.complete ≡ true }
@@ -209,7 +209,7 @@ fn read_all<D: Disk>(
     octets.resize(info.held as usize, 0)?;
     match store.read_at(disk, number, 0, octets.as_mut_slice()) {
         Ok(()) => Ok(octets),
-        Err(_) => Err(OutOfMemory),
+        Err(_) => Err(Stopped::Broken(Breach::FileUnread)),
     }
 }
 

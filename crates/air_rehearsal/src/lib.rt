@@ -15,7 +15,9 @@ mod rehearsing;
 mod report;
 mod serving;
 mod stations;
+mod stopped;
 
 pub use generator::drive;
 pub use rehearsing::{RehearseStop, rehearse};
 pub use report::Report;
+pub use stopped::Breach;

@@ -6,7 +6,7 @@ ghost use Rattle.client_notes.specs.Notes.{task_count};
 ghost use Rattle.air_world.specs.Events.{ClientPart, ClientTakes};
 ghost use Rattle.air_world.specs.Lawful.{IsAllowed};
 ghost use Rattle.air_world.specs.Schedule.{Event};
-ghost use Rattle.air_rehearsal.specs.Halfway.{StopsCutPart, StopsPart};
+ghost use Rattle.air_rehearsal.specs.Breaches.{halted};
 ghost use Rattle.air_rehearsal.specs.PartCalls.{ActsPart, BeCut, BeginsPart, KeepsOthers, TouchesPart};
 ghost use Rattle.air_rehearsal.specs.PartCalls.{uploads_by};
 ghost use Rattle.air_rehearsal.specs.Ready.{IsReadyParty, IsTheirs, KeepsParty, MayDo};
@@ -16,11 +16,12 @@ ghost use Rattle.air_rehearsal.specs.Worlds.{IsSteady};
 
 use crate::cuts::Cut;
 use crate::party::Party;
+use crate::stopped::{Breach, Stopped};
 use air_world::laws::sound_law;
 use client_notes::laws::{armed_law, images_law};
 use client_notes::{LONGEST_FILE, TaskNumber};
 use disk_model::{CutDisk, Disk, Halt};
-use px_base::{FileBytes, FileNumber, OutOfMemory};
+use px_base::{FileBytes, FileNumber};
 use std::alloc::Global;
 
 /// The most octets of a selection that is asked.
@@ -98,7 +99,7 @@ impl Party {
         alloc: Global,
         disk: &mut B,
         part: Part,
-    ) -> Result<(), OutOfMemory>
+    ) -> Result<(), Stopped>
         requires ready { IsReadyParty B.Disk self.old disk.old }
         requires may { MayDo self.old part }
         ensures ready { OnOk result (IsReadyParty B.Disk self.new disk.new) }
@@ -109,30 +110,25 @@ impl Party {
             → IsSteady B.Disk (cuts_by B.restarts B.arming B.plain B.is_starved) disk.old
             → TakesPart B.Disk (cuts_by B.restarts B.arming B.plain B.is_starved) whole self.old self.new
             disk.old disk.new) }
-        ensures stops { (seat : Seat) (whole : ClientPart) → IsSeat self.old seat → IsPart seat part whole
-            → StopsPart B.Disk (cuts_by B.restarts B.arming B.plain B.is_starved) self.old.cut whole
-            disk.old disk.new }
     {
         match self.cut {
             Some(cut) => self.be_cut(alloc, disk, part, cut)?,
             None => self.act(alloc, disk, part)?,
         }
         if disk.starved() {
-            return Err(OutOfMemory);
+            return Err(Stopped::OutOfMemory);
         }
         Ok(())
     }
 
     /// The client does this, and sends what it has to send. Takes memory.
-    fn act<D: Disk>(&mut self, alloc: Global, disk: &mut D, part: Part) -> Result<(), OutOfMemory>
+    fn act<D: Disk>(&mut self, alloc: Global, disk: &mut D, part: Part) -> Result<(), Stopped>
         requires ready { IsReadyParty D.Disk self.old disk.old }
         requires may { MayDo self.old part }
         ensures ready { OnOk result (IsReadyParty D.Disk self.new disk.new) }
         ensures acts { OnOk result ((seat : Seat) (event : Event) (whole : ClientPart) → IsSeat self.old seat
             → IsAllowed seat.world event → ClientTakes seat.world event seat.c whole → IsPart seat part whole
             → self.old.cut ≡ None → ActsPart D.Disk whole self.old self.new disk.old disk.new) }
-        ensures carries { (seat : Seat) (whole : ClientPart) → IsSeat self.old seat
-            → IsPart seat part whole → CarriesPart D.Disk whole disk.old disk.new }
     {
         sound_law();
         self.do_part(alloc, disk, part)?;
@@ -140,19 +136,12 @@ impl Party {
     }
 
     /// The client does this. Takes memory.
-    fn do_part<D: Disk>(
-        &mut self,
-        alloc: Global,
-        disk: &mut D,
-        part: Part,
-    ) -> Result<(), OutOfMemory>
+    fn do_part<D: Disk>(&mut self, alloc: Global, disk: &mut D, part: Part) -> Result<(), Stopped>
         requires ready { IsReadyParty D.Disk self.old disk.old }
         requires may { MayDo self.old part }
         ensures theirs { OnOk result (IsTheirs D.Disk self.new disk.new) }
         ensures begins { OnOk result ((seat : Seat) (whole : ClientPart) → IsSeat self.old seat
             → IsPart seat part whole → BeginsPart D.Disk whole self.old self.new disk.old disk.new) }
-        ensures carries { (seat : Seat) (whole : ClientPart) → IsSeat self.old seat
-            → IsPart seat part whole → CarriesPart D.Disk whole disk.old disk.new }
     {
         match part {
             Part::Upload { upload, file } => self.ask_upload(alloc, disk, upload, file),
@@ -161,7 +150,7 @@ impl Party {
             }
             Part::List { tokens } => self.ask_list(alloc, disk, tokens),
             Part::Download { number } => self.ask_download(alloc, disk, number),
-            Part::Hear { place } => self.hear(disk, place).map_err(no_memory),
+            Part::Hear { place } => self.hear(disk, place),
             Part::Tick => {
                 self.tick(disk);
                 Ok(())
@@ -177,7 +166,7 @@ impl Party {
         disk: &mut B,
         part: Part,
         cut: Cut,
-    ) -> Result<(), OutOfMemory>
+    ) -> Result<(), Stopped>
         requires ready { IsReadyParty B.Disk self.old disk.old }
         requires may { MayDo self.old part }
         ensures ready { OnOk result (IsReadyParty B.Disk self.new disk.new) }
@@ -186,9 +175,6 @@ impl Party {
             → IsSteady B.Disk (cuts_by B.restarts B.arming B.plain B.is_starved) disk.old
             → BeCut B.Disk (cuts_by B.restarts B.arming B.plain B.is_starved) cut.call whole self.new
             disk.old disk.new) }
-        ensures stops { (seat : Seat) (whole : ClientPart) → IsSeat self.old seat → IsPart seat part whole
-            → StopsCutPart B.Disk (cuts_by B.restarts B.arming B.plain B.is_starved) cut.call whole
-            disk.old disk.new }
     {
         armed_law::<B>();
         cut.arm(disk);
@@ -203,7 +189,7 @@ impl Party {
     }
 
     /// Looks for the task of the upload that was asked, if one was. Takes memory.
-    fn note_part(&mut self, part: &Part) -> Result<(), OutOfMemory>
+    fn note_part(&mut self, part: &Part) -> Result<(), Stopped>
         ensures keeps { KeepsParty self.old self.new }
         ensures notes { OnOk result (self.new.uploads.items
             ≡ uploads_by part.now (task_count self.old.client.notes.lists) self.old.uploads.items) }
@@ -219,18 +205,18 @@ impl Party {
     }
 
     /// The client does of this what its disk has to do with. Takes memory.
-    fn touch_disk<D: Disk>(&mut self, disk: &mut D, part: &Part) -> Result<(), Halt>
+    fn touch_disk<D: Disk>(&mut self, disk: &mut D, part: &Part) -> Result<(), Stopped>
         requires ready { IsReadyParty D.Disk self.old disk.old }
         requires may { MayDo self.old part.now }
         ensures keeps { KeepsOthers self.old self.new }
         ensures touches { (seat : Seat) (whole : ClientPart) → IsSeat self.old seat → IsPart seat part.now whole
-            → TouchesPart D.Disk whole self.new disk.old disk.new result }
+            → TouchesPart D.Disk whole self.new disk.old disk.new (halted result) }
     {
         images_law(self.client.notes(), disk);
         match part {
             Part::Upload { upload, file } => match self.start(disk, *upload, file.as_slice()) {
                 Ok(_) => Ok(()),
-                Err(halt) => Err(halt),
+                Err(stopped) => Err(stopped),
             },
             Part::Hear { place } => self.hear(disk, *place),
             Part::Resume { .. } | Part::List { .. } | Part::Download { .. } | Part::Tick => Ok(()),
@@ -238,17 +224,13 @@ impl Party {
     }
 }
 
-/// What is to be cut may halt by a fault of the disk; it fails where it halted by want of memory.
-fn memory_found(came: Result<(), Halt>) -> Result<(), OutOfMemory>
-    ensures { OnOk result (came ≢ Err Halt.OutOfMemory) }
+/// What is to be cut may stop by a fault of the disk; whatever else stops it ends the rehearsal.
+fn memory_found(came: Result<(), Stopped>) -> Result<(), Stopped>
+    ensures { OnOk result (halted came ≢ Err Halt.OutOfMemory) }
 {
-    if came == Err(Halt::OutOfMemory) {
-        return Err(OutOfMemory);
+    match came {
+        Ok(()) => Ok(()),
+        Err(Stopped::Broken(Breach::ClientDisk)) => Ok(()),
+        Err(stopped) => Err(stopped),
     }
-    Ok(())
-}
-
-/// Where nothing is to be cut, an event halts by want of memory alone.
-fn no_memory(_halt: Halt) -> OutOfMemory {
-    OutOfMemory
 }

@@ -17,10 +17,10 @@ ghost use Rattle.ftl0_client_job.specs.declared.work.Work.TheVariants as work;
 ghost use Rattle.turn_loop.specs.Events.{IsFor};
 ghost use Rattle.air_world.specs.Events.{ClientPart, DeliversToClient, asking, part_with};
 ghost use Rattle.air_world.specs.Lawful.{IsFree as IsFreeParty};
-ghost use Rattle.air_rehearsal.specs.Halfway.{TriesToStart};
 ghost use Rattle.air_rehearsal.specs.Lanes.{HasLanes, Lanes};
 ghost use Rattle.air_rehearsal.specs.PartCalls.{BeginsPart, HasTaskOf, KeepsButNotes, KeepsOthers, Restarts, SaysAll};
 ghost use Rattle.air_rehearsal.specs.PartCalls.{StartsTask, TouchesPart, uploads_then};
+ghost use Rattle.air_rehearsal.specs.Breaches.{halt_of, halted};
 ghost use Rattle.air_rehearsal.specs.Drawn.{last_acked as last_acked_in};
 ghost use Rattle.air_rehearsal.specs.NotedTasks.{number_if_acked, number_if_going};
 ghost use Rattle.air_rehearsal.specs.PartyCalls.{BreaksOff, IsLastGoing, IsOpened};
@@ -32,6 +32,7 @@ ghost use Rattle.air_rehearsal.specs.Worlds.{IsSteady};
 use crate::asking::sum_of;
 use crate::attempt::Attempt;
 use crate::cuts::Cut;
+use crate::stopped::{Breach, Stopped};
 use arrayvec::ArrayVec;
 use ax25_frames::{Frame, read_frame};
 use client_notes::laws::images_law;
@@ -39,7 +40,7 @@ use client_notes::{Begun, MOST_TASKS, Noted, Notes, NotesRefusal, TaskNumber};
 use disk_model::{CutDisk, Disk, Halt};
 use ftl0_client::{Client, Job, Outcome};
 use itoa::Buffer;
-use px_base::{Call, FileBytes, FileNumber, OutOfMemory};
+use px_base::{Call, FileBytes, FileNumber};
 use std::alloc::Global;
 
 /// A client of the server, over the notes of its disk, with what it and the server sent in its newest attempt.
@@ -64,11 +65,10 @@ impl Party {
         server: Call,
         me: Call,
         k: u8,
-    ) -> Result<Party, OutOfMemory>
+    ) -> Result<Party, Stopped>
         requires { IsGoodK k }
         ensures ready { IfOk result (λ party. IsReadyParty D.Disk party disk.new) }
         ensures opens { IfOk result (λ party. IsOpened D.Disk server me k disk.old disk.new party) }
-        ensures tries { (c : ℕ) → TriesToStart D.Disk (client_at c) disk.old disk.new }
     {
         match Notes::recover(alloc, disk) {
             Ok(notes) => Ok(Party {
@@ -80,7 +80,7 @@ impl Party {
                 attempt: Attempt::new(alloc),
                 cut: None,
             }),
-            Err(_) => Err(OutOfMemory),
+            Err(fault) => Err(Stopped::of_notes(fault)),
         }
     }
 
@@ -89,40 +89,34 @@ impl Party {
         &mut self,
         alloc: Global,
         disk: &mut B,
-    ) -> Result<(), OutOfMemory>
+    ) -> Result<(), Stopped>
         requires { IsReadyParty B.Disk self.old disk.old }
         ensures ready { OnOk result (IsReadyParty B.Disk self.new disk.new) }
         ensures breaks { OnOk result ((seat : Seat) → IsSeat self.old seat
             → IsSteady B.Disk (cuts_by B.restarts B.arming B.plain B.is_starved) disk.old
             → BreaksOff B.Disk (cuts_by B.restarts B.arming B.plain B.is_starved) seat self.old self.new disk.old
             disk.new) }
-        ensures tries { (c : ℕ) → TriesToStart B.Disk (client_at c) disk.old disk.new }
     {
         images_law(self.client.notes(), disk);
         self.restart(alloc, disk)?;
         if disk.starved() {
-            return Err(OutOfMemory);
+            return Err(Stopped::OutOfMemory);
         }
         Ok(())
     }
 
     /// The client starts again from its notes. Takes memory.
-    pub(crate) fn restart<D: Disk>(
-        &mut self,
-        alloc: Global,
-        disk: &mut D,
-    ) -> Result<(), OutOfMemory>
+    pub(crate) fn restart<D: Disk>(&mut self, alloc: Global, disk: &mut D) -> Result<(), Stopped>
         requires { IsGoodK self.old.k }
         ensures ready { OnOk result (IsReadyParty D.Disk self.new disk.new) }
         ensures restarts { OnOk result (Restarts D.Disk self.old self.new disk.old disk.new) }
-        ensures tries { (c : ℕ) → TriesToStart D.Disk (client_at c) disk.old disk.new }
     {
         match Notes::recover(alloc, disk) {
             Ok(notes) => {
                 self.client = Client::start(notes, self.me, self.server, self.k);
                 Ok(())
             }
-            Err(_) => Err(OutOfMemory),
+            Err(fault) => Err(Stopped::of_notes(fault)),
         }
     }
 
@@ -180,7 +174,7 @@ impl Party {
     }
 
     /// Looks for the task of the upload that was asked last: where it was begun, it is the last task. Takes memory.
-    pub(crate) fn note_task(&mut self, upload: u32) -> Result<(), OutOfMemory>
+    pub(crate) fn note_task(&mut self, upload: u32) -> Result<(), Stopped>
         ensures keeps { KeepsParty self.old self.new }
         ensures notes { OnOk result (self.new.uploads.items
             ≡ uploads_then (task_count self.old.client.notes.lists) upload self.old.uploads.items) }
@@ -197,7 +191,7 @@ impl Party {
         disk: &mut D,
         upload: u32,
         file: &[u8],
-    ) -> Result<TaskNumber, Halt>
+    ) -> Result<TaskNumber, Stopped>
         requires ready { IsReadyParty D.Disk self.old disk.old }
         requires free { IsFree self.old.client }
         requires short { length file.now ≤ longest_file }
@@ -205,7 +199,8 @@ impl Party {
         ensures keeps { KeepsButNotes self.old self.new }
         ensures task { IfOk result (λ task. HasTaskOf self.new.client task 0 file.now) }
         ensures touches { (seat : Seat) (whole : ClientPart) → IsSeat self.old seat
-            → AsksNext seat upload file.now whole → TouchesPart D.Disk whole self.new disk.old disk.new result }
+            → AsksNext seat upload file.now whole
+            → TouchesPart D.Disk whole self.new disk.old disk.new (halted result) }
         ensures starts { IfOk result (λ task. (seat : Seat) (whole : ClientPart) → IsSeat self.old seat
             → AsksNext seat upload file.now whole → StartsTask whole task self.new) }
     {
@@ -218,10 +213,11 @@ impl Party {
         {
             Ok(begun) => match begun {
                 Begun::Fresh { task } => Ok(task),
-                _ => Err(Halt::OutOfMemory),
+                _ => Err(Stopped::Broken(Breach::NoTask)),
             },
-            Err(NotesRefusal::Disk) => Err(Halt::Disk),
-            Err(_) => Err(Halt::OutOfMemory),
+            Err(NotesRefusal::Disk) => Err(Stopped::Broken(Breach::ClientDisk)),
+            Err(NotesRefusal::OutOfMemory) => Err(Stopped::OutOfMemory),
+            Err(_) => Err(Stopped::Broken(Breach::NoTask)),
         }
     }
 
@@ -232,18 +228,17 @@ impl Party {
         disk: &mut D,
         upload: u32,
         file: FileBytes,
-    ) -> Result<(), OutOfMemory>
+    ) -> Result<(), Stopped>
         requires ready { IsReadyParty D.Disk self.old disk.old }
         requires free { IsFree self.old.client }
         requires short { length file ≤ longest_file }
         ensures theirs { OnOk result (IsTheirs D.Disk self.new disk.new) }
         ensures begins { OnOk result ((seat : Seat) (whole : ClientPart) → IsSeat self.old seat
             → AsksNext seat upload file whole → BeginsPart D.Disk whole self.old self.new disk.old disk.new) }
-        ensures carries { (seat : Seat) (whole : ClientPart) → IsSeat self.old seat → AsksNext seat upload file whole
-            → CarriesPart D.Disk whole disk.old disk.new }
     {
-        let Ok(task) = self.start(disk, upload, file.as_slice()) else {
-            return Err(OutOfMemory);
+        let task = match self.start(disk, upload, file.as_slice()) {
+            Ok(task) => task,
+            Err(stopped) => return Err(stopped),
         };
         self.client
             .ask(alloc, Job::upload(task, FileNumber::new(0), file))?;
@@ -260,7 +255,7 @@ impl Party {
         task: TaskNumber,
         number: FileNumber,
         file: &[u8],
-    ) -> Result<(), OutOfMemory>
+    ) -> Result<(), Stopped>
         requires ready { IsReadyParty D.Disk self.old disk.old }
         requires free { IsFree self.old.client }
         requires short { length file.now ≤ longest_file }
@@ -272,25 +267,25 @@ impl Party {
         let name = buffer.format(upload);
         let noted = self.client.notes().noted(self.server, self.me, name);
         let Some(noted) = noted else {
-            return Err(OutOfMemory);
+            return Err(Stopped::Broken(Breach::NoTask));
         };
         let Noted::Going { .. } = noted else {
-            return Err(OutOfMemory);
+            return Err(Stopped::Broken(Breach::NoTask));
         };
         let digest = sum_of(file);
         let length = file.len() as u32;
         let Ok(begun) = self.client.start_task(disk, name, length, digest) else {
-            return Err(OutOfMemory);
+            return Err(Stopped::Broken(Breach::NoTask));
         };
         let Begun::Going {
             task: found,
             number: known,
         } = begun
         else {
-            return Err(OutOfMemory);
+            return Err(Stopped::Broken(Breach::NoTask));
         };
         if found != task || known != number {
-            return Err(OutOfMemory);
+            return Err(Stopped::Broken(Breach::NoTask));
         }
         Ok(())
     }
@@ -303,7 +298,7 @@ impl Party {
         task: TaskNumber,
         number: FileNumber,
         file: FileBytes,
-    ) -> Result<(), OutOfMemory>
+    ) -> Result<(), Stopped>
         requires ready { IsReadyParty D.Disk self.old disk.old }
         requires free { IsFree self.old.client }
         requires short { length file ≤ longest_file }
@@ -311,13 +306,12 @@ impl Party {
         ensures begins { OnOk result ((seat : Seat) (whole : ClientPart) → IsSeat self.old seat
             → Resumes seat task number file whole
             → BeginsPart D.Disk whole self.old self.new disk.old disk.new) }
-        ensures untouched { disk.new ≡ disk.old }
     {
         if task.get() == 0 {
-            return Err(OutOfMemory);
+            return Err(Stopped::Broken(Breach::NoTask));
         }
         let Some(upload) = self.uploads.get((task.get() - 1) as usize) else {
-            return Err(OutOfMemory);
+            return Err(Stopped::Broken(Breach::NoTask));
         };
         let upload = *upload;
         self.go_on(disk, upload, task, number, file.as_slice())?;
@@ -331,7 +325,7 @@ impl Party {
         alloc: Global,
         _disk: &mut D,
         tokens: FileBytes,
-    ) -> Result<(), OutOfMemory>
+    ) -> Result<(), Stopped>
         requires ready { IsReadyParty D.Disk self.old _disk.old }
         requires free { IsFree self.old.client }
         requires short { length tokens ≤ 2047 }
@@ -339,7 +333,6 @@ impl Party {
         ensures begins { OnOk result ((seat : Seat) (whole : ClientPart) → IsSeat self.old seat
             → whole ≡ asking seat.party (work.Directory (new_directory tokens))
             → BeginsPart D.Disk whole self.old self.new _disk.old _disk.new) }
-        ensures untouched { _disk.new ≡ _disk.old }
     {
         self.client.ask(alloc, Job::list(alloc, tokens))?;
         Ok(())
@@ -351,7 +344,7 @@ impl Party {
         alloc: Global,
         _disk: &mut D,
         number: FileNumber,
-    ) -> Result<(), OutOfMemory>
+    ) -> Result<(), Stopped>
         requires ready { IsReadyParty D.Disk self.old _disk.old }
         requires free { IsFree self.old.client }
         requires some { 1 ≤ number }
@@ -359,7 +352,6 @@ impl Party {
         ensures begins { OnOk result ((seat : Seat) (whole : ClientPart) → IsSeat self.old seat
             → whole ≡ asking seat.party (work.Download (new_download seat.party.client.server number))
             → BeginsPart D.Disk whole self.old self.new _disk.old _disk.new) }
-        ensures untouched { _disk.new ≡ _disk.old }
     {
         // What is got of a file is no longer than a file may be.
         let _held = self.client.notes().got_len(self.server, number);
@@ -369,13 +361,13 @@ impl Party {
     }
 
     /// The client hears the frame at this place of those that the server sent, which is delivered so. Takes memory.
-    pub(crate) fn hear<D: Disk>(&mut self, disk: &mut D, place: usize) -> Result<(), Halt>
+    pub(crate) fn hear<D: Disk>(&mut self, disk: &mut D, place: usize) -> Result<(), Stopped>
         requires { IsReadyParty D.Disk self.old disk.old }
         ensures theirs { OnOk result (IsTheirs D.Disk self.new disk.new) }
         ensures keeps { KeepsOthers self.old self.new }
         ensures touches { (seat : Seat) (whole : ClientPart) → IsSeat self.old seat
             → DeliversToClient seat.party place whole
-            → TouchesPart D.Disk whole self.new disk.old disk.new result }
+            → TouchesPart D.Disk whole self.new disk.old disk.new (halted result) }
         ensures begins { OnOk result ((seat : Seat) (whole : ClientPart) → IsSeat self.old seat
             → DeliversToClient seat.party place whole
             → BeginsPart D.Disk whole self.old self.new disk.old disk.new) }
@@ -390,7 +382,7 @@ impl Party {
                     images_law(self.client.notes(), disk);
                     Ok(())
                 }
-                Err(halt) => Err(halt),
+                Err(halt) => Err(stopped_by(halt)),
             },
             None => Ok(()),
         }
@@ -403,13 +395,12 @@ impl Party {
         ensures begins { (seat : Seat) (whole : ClientPart) → IsSeat self.old seat
             → whole ≡ part_with seat.party ticks
             → BeginsPart D.Disk whole self.old self.new _disk.old _disk.new }
-        ensures untouched { _disk.new ≡ _disk.old }
     {
         self.client.tick();
     }
 
     /// The client sends all that it has to send. Takes memory.
-    pub(crate) fn say<D: Disk>(&mut self, _disk: &mut D) -> Result<(), OutOfMemory>
+    pub(crate) fn say<D: Disk>(&mut self, _disk: &mut D) -> Result<(), Stopped>
         requires { IsTheirs D.Disk self.old _disk.old }
         ensures ready { OnOk result (IsReadyParty D.Disk self.new _disk.new) }
         ensures same { _disk.new ≡ _disk.old }
@@ -436,6 +427,16 @@ pub(crate) fn frame_for(me: Call, octets: &[u8]) -> Option<Frame<'_>>
     match read_frame(octets) {
         Ok(frame) if frame.dest == me && frame.via == 0 => Some(frame),
         _ => None,
+    }
+}
+
+/// A client halted so over its disk.
+fn stopped_by(halt: Halt) -> Stopped
+    ensures { halt_of result ≡ halt }
+{
+    match halt {
+        Halt::Disk => Stopped::Broken(Breach::ClientDisk),
+        Halt::OutOfMemory => Stopped::OutOfMemory,
     }
 }
 

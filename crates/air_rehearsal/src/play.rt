@@ -8,7 +8,6 @@ ghost use Rattle.air_world.specs.Events.{ClientPart};
 ghost use Rattle.air_world.specs.Lawful.{IsAllowed};
 ghost use Rattle.air_world.specs.Schedule.{ask_resume, ask_upload, break_client, cut_client};
 ghost use Rattle.air_world.specs.World.{World, next_moment};
-ghost use Rattle.air_rehearsal.specs.Halfway.{LeavesAt, StopsApart, StopsEvent, StopsPart, TriesToStart};
 ghost use Rattle.air_rehearsal.specs.Playing.{GoesOn, IsBench, IsPlaying, PlaysEvent, bench_of};
 ghost use Rattle.air_rehearsal.specs.Ready.{AreReady, IsReadyServer};
 ghost use Rattle.air_rehearsal.specs.ServerEvents.{CanCount, CountsOn};
@@ -19,24 +18,26 @@ ghost use Rattle.air_rehearsal.specs.Stations.{client_at};
 use crate::asking::{Upload, file_of};
 use crate::cuts::Cut;
 use crate::part::Part;
+use crate::serving::ServerEvent;
 use crate::stations::{Stations, place_of};
+use crate::stopped::{Breach, Stopped};
 use air_schedule::Event;
 use air_world::laws::sound_law;
 use client_notes::laws::images_law;
 use disk_model::CutDisk;
 use ftl0_server::Server;
-use px_base::{FileBytes, FileNumber, Moment, OutOfMemory};
+use px_base::{FileBytes, FileNumber, Moment};
 
 impl Stations {
-    /// Plays an event that may come, over the server's disk and the clients'. Where memory is wanting the server is
-    /// closed. Takes memory.
+    /// Plays an event that may come, over the server's disk and the clients'. Where it fails the server is closed.
+    /// Takes memory.
     pub(crate) fn play<B: CutDisk>(
         &mut self,
         server: Server,
         disk: &mut B,
         disks: &mut [B],
         event: &Event,
-    ) -> Result<Server, OutOfMemory>
+    ) -> Result<Server, Stopped>
         requires server { IsReadyServer B.Disk self.old server disk.old }
         requires clients { AreReady B.Disk self.old.parties.items disks.old }
         ensures server { IfOk result (λ server. IsReadyServer B.Disk self.new server disk.new) }
@@ -50,12 +51,6 @@ impl Stations {
             → IsAllowed world (event_value event.now)
             → PlaysEvent B.Disk (cuts_by B.restarts B.arming B.plain B.is_starved) world (event_value event.now)
             (bench_of self.old server disk.old disks.old) (bench_of self.new later disk.new disks.new)) }
-        ensures stops { OnErr result ((world : World)
-            → IsPlaying B.Disk (cuts_by B.restarts B.arming B.plain B.is_starved) world
-            (bench_of self.old server disk.old disks.old) → CanCount B.Disk disk.old
-            → IsAllowed world (event_value event.now)
-            → StopsEvent B.Disk (cuts_by B.restarts B.arming B.plain B.is_starved) self.old world
-            (event_value event.now) (disk.old ∷ disks.old) (disk.new ∷ disks.new)) }
     {
         self.count_event();
         self.go(server, disk, disks, event)
@@ -76,7 +71,7 @@ impl Stations {
         disk: &mut B,
         disks: &mut [B],
         event: &Event,
-    ) -> Result<Server, OutOfMemory>
+    ) -> Result<Server, Stopped>
         requires server { IsReadyServer B.Disk self.old server disk.old }
         requires clients { AreReady B.Disk self.old.parties.items disks.old }
         ensures server { IfOk result (λ server. IsReadyServer B.Disk self.new server disk.new) }
@@ -88,12 +83,6 @@ impl Stations {
             → self.old.moment ≡ next_moment world → IsAllowed world (event_value event.now)
             → GoesOn B.Disk (cuts_by B.restarts B.arming B.plain B.is_starved) world (event_value event.now)
             (bench_of self.old server disk.old disks.old) (bench_of self.new later disk.new disks.new)) }
-        ensures stops { OnErr result ((world : World)
-            → IsBench B.Disk (cuts_by B.restarts B.arming B.plain B.is_starved) world
-            (bench_of self.old server disk.old disks.old) → CanCount B.Disk disk.old
-            → self.old.moment ≡ next_moment world → IsAllowed world (event_value event.now)
-            → StopsEvent B.Disk (cuts_by B.restarts B.arming B.plain B.is_starved) self.old world
-            (event_value event.now) (disk.old ∷ disks.old) (disk.new ∷ disks.new)) }
     {
         sound_law();
         match event {
@@ -103,17 +92,17 @@ impl Stations {
             } => match (place_of(*client), place_of(*transmission)) {
                 (Some(c), Some(place)) => {
                     self.count_cut();
-                    self.to_server(server, disk, c, place)
+                    self.serve_event(server, disk, ServerEvent::Hear { c, place })
                 }
-                _ => refuse(server),
+                _ => refuse(server, Stopped::Broken(Breach::NoClient)),
             },
             Event::TickServer => {
                 self.count_cut();
-                self.tick_server(server, disk)
+                self.serve_event(server, disk, ServerEvent::Tick)
             }
             _ => match self.go_apart(disks, event) {
                 Ok(()) => Ok(server),
-                Err(OutOfMemory) => refuse(server),
+                Err(stopped) => refuse(server, stopped),
             },
         }
     }
@@ -126,7 +115,7 @@ impl Stations {
     }
 
     /// Plays an event in which the server takes no part. Takes memory.
-    fn go_apart<B: CutDisk>(&mut self, disks: &mut [B], event: &Event) -> Result<(), OutOfMemory>
+    fn go_apart<B: CutDisk>(&mut self, disks: &mut [B], event: &Event) -> Result<(), Stopped>
         requires window { IsGoodK self.old.k }
         requires clients { AreReady B.Disk self.old.parties.items disks.old }
         ensures clients { OnOk result (AreReady B.Disk self.new.parties.items disks.new) }
@@ -134,8 +123,6 @@ impl Stations {
         ensures k { self.new.k ≡ self.old.k }
         ensures goes { OnOk result (GoesApart B.Disk (cuts_by B.restarts B.arming B.plain B.is_starved)
             (event_value event.now) (clients_of self.old disks.old) (clients_of self.new disks.new)) }
-        ensures stops { StopsApart B.Disk (cuts_by B.restarts B.arming B.plain B.is_starved)
-            (event_value event.now) (clients_of self.old disks.old) disks.new }
     {
         sound_law();
         match event {
@@ -168,7 +155,7 @@ impl Stations {
         _disks: &mut [B],
         client: u64,
         cut: Cut,
-    ) -> Result<(), OutOfMemory>
+    ) -> Result<(), Stopped>
         requires { AreReady B.Disk self.old.parties.items _disks.old }
         ensures clients { AreReady B.Disk self.new.parties.items _disks.new }
         ensures me { self.new.me ≡ self.old.me }
@@ -176,37 +163,34 @@ impl Stations {
         ensures goes { OnOk result (GoesApart B.Disk (cuts_by B.restarts B.arming B.plain B.is_starved)
             (cut_client client cut.call cut.choice) (clients_of self.old _disks.old)
             (clients_of self.new _disks.new)) }
-        ensures untouched { _disks.new ≡ _disks.old }
     {
         sound_law();
         let Some(c) = place_of(client) else {
-            return Err(OutOfMemory);
+            return Err(Stopped::Broken(Breach::NoClient));
         };
         if c >= self.parties.len() {
-            return Err(OutOfMemory);
+            return Err(Stopped::Broken(Breach::NoClient));
         }
         self.parties[c].cut = Some(cut);
         Ok(())
     }
 
     /// A client starts again from its notes. Takes memory.
-    fn break_client<B: CutDisk>(&mut self, disks: &mut [B], client: u64) -> Result<(), OutOfMemory>
+    fn break_client<B: CutDisk>(&mut self, disks: &mut [B], client: u64) -> Result<(), Stopped>
         requires { AreReady B.Disk self.old.parties.items disks.old }
         ensures clients { OnOk result (AreReady B.Disk self.new.parties.items disks.new) }
         ensures me { self.new.me ≡ self.old.me }
         ensures k { self.new.k ≡ self.old.k }
         ensures goes { OnOk result (GoesApart B.Disk (cuts_by B.restarts B.arming B.plain B.is_starved)
             (break_client client) (clients_of self.old disks.old) (clients_of self.new disks.new)) }
-        ensures tries { (c : ℕ) → client ≡ suc c
-            → LeavesAt c (TriesToStart B.Disk (client_at c)) disks.old disks.new }
     {
         sound_law();
         let alloc = self.alloc;
         let Some(c) = place_of(client) else {
-            return Err(OutOfMemory);
+            return Err(Stopped::Broken(Breach::NoClient));
         };
         if c >= self.parties.len() || c >= disks.len() {
-            return Err(OutOfMemory);
+            return Err(Stopped::Broken(Breach::NoClient));
         }
         let party = &mut self.parties[c];
         party.break_off(alloc, &mut disks[c])?;
@@ -215,19 +199,13 @@ impl Stations {
     }
 
     /// Plays an event in which a client takes part. Takes memory.
-    fn go_at_client<B: CutDisk>(
-        &mut self,
-        disks: &mut [B],
-        event: &Event,
-    ) -> Result<(), OutOfMemory>
+    fn go_at_client<B: CutDisk>(&mut self, disks: &mut [B], event: &Event) -> Result<(), Stopped>
         requires { AreReady B.Disk self.old.parties.items disks.old }
         ensures clients { OnOk result (AreReady B.Disk self.new.parties.items disks.new) }
         ensures me { self.new.me ≡ self.old.me }
         ensures k { self.new.k ≡ self.old.k }
         ensures goes { OnOk result (GoesApart B.Disk (cuts_by B.restarts B.arming B.plain B.is_starved)
             (event_value event.now) (clients_of self.old disks.old) (clients_of self.new disks.new)) }
-        ensures stops { StopsApart B.Disk (cuts_by B.restarts B.arming B.plain B.is_starved)
-            (event_value event.now) (clients_of self.old disks.old) disks.new }
     {
         sound_law();
         match event {
@@ -245,20 +223,18 @@ impl Stations {
         disks: &mut [B],
         client: u64,
         octets: u16,
-    ) -> Result<(), OutOfMemory>
+    ) -> Result<(), Stopped>
         requires { AreReady B.Disk self.old.parties.items disks.old }
         ensures clients { OnOk result (AreReady B.Disk self.new.parties.items disks.new) }
         ensures me { self.new.me ≡ self.old.me }
         ensures k { self.new.k ≡ self.old.k }
         ensures goes { OnOk result (GoesApart B.Disk (cuts_by B.restarts B.arming B.plain B.is_starved)
             (ask_upload client octets) (clients_of self.old disks.old) (clients_of self.new disks.new)) }
-        ensures stops { StopsApart B.Disk (cuts_by B.restarts B.arming B.plain B.is_starved)
-            (ask_upload client octets) (clients_of self.old disks.old) disks.new }
     {
         sound_law();
         let (Some(client), Ok(upload)) = (place_of(client), u32::try_from(self.uploads.len()))
         else {
-            return Err(OutOfMemory);
+            return Err(Stopped::Broken(Breach::NoClient));
         };
         let file = file_of(self.alloc, upload, octets)?;
         self.take_part(disks, client, Part::Upload { upload, file })?;
@@ -272,7 +248,7 @@ impl Stations {
         disks: &mut [B],
         c: usize,
         part: Part,
-    ) -> Result<(), OutOfMemory>
+    ) -> Result<(), Stopped>
         requires { AreReady B.Disk self.old.parties.items disks.old }
         ensures clients { OnOk result (AreReady B.Disk self.new.parties.items disks.new) }
         ensures me { self.new.me ≡ self.old.me }
@@ -282,19 +258,14 @@ impl Stations {
             (clients_of self.old disks.old) part whole)
             → TookPart B.Disk (cuts_by B.restarts B.arming B.plain B.is_starved) c part whole
             (clients_of self.old disks.old) (clients_of self.new disks.new) may) }
-        ensures stops { (whole : ClientPart) →
-            (may : MayTake B.Disk (cuts_by B.restarts B.arming B.plain B.is_starved) c
-            (clients_of self.old disks.old) part whole)
-            → LeavesAt c (StopsPart B.Disk (cuts_by B.restarts B.arming B.plain B.is_starved) may.seated.party.cut
-            whole) disks.old disks.new }
     {
         let alloc = self.alloc;
         if c >= self.parties.len() || c >= disks.len() {
-            return Err(OutOfMemory);
+            return Err(Stopped::Broken(Breach::NoClient));
         }
         let party = &mut self.parties[c];
         if !party.may_do(&part) {
-            return Err(OutOfMemory);
+            return Err(Stopped::Broken(Breach::NotAllowed));
         }
         self.report.count_asked(part.asks());
         self.report.count_cut(party.cut.is_some());
@@ -308,7 +279,7 @@ impl Stations {
     }
 
     /// Which client takes part in an event, and how; no new upload is asked. Takes memory.
-    fn part_of(&self, event: &Event) -> Result<(usize, Part), OutOfMemory>
+    fn part_of(&self, event: &Event) -> Result<(usize, Part), Stopped>
         ensures { IfOk result (λ it. ComesAlways self.now (event_value event.now) it.0 it.1) }
     {
         match event {
@@ -330,45 +301,45 @@ impl Stations {
                 transmission,
             } => match place_of(*transmission) {
                 Some(place) => part_at(*client, Part::Hear { place }),
-                None => Err(OutOfMemory),
+                None => Err(Stopped::Broken(Breach::NoClient)),
             },
             Event::TickClient { client } => part_at(*client, Part::Tick),
-            _ => Err(OutOfMemory),
+            _ => Err(Stopped::Broken(Breach::NotAllowed)),
         }
     }
 
     /// A client is asked for its last unfinished upload again. Takes memory.
-    fn old_upload(&self, client: u64) -> Result<(usize, Part), OutOfMemory>
+    fn old_upload(&self, client: u64) -> Result<(usize, Part), Stopped>
         ensures { IfOk result (λ it. ComesAlways self.now (ask_resume client) it.0 it.1) }
     {
         let Some(party) = self.party(client) else {
-            return Err(OutOfMemory);
+            return Err(Stopped::Broken(Breach::NoClient));
         };
         let Some(going) = party.last_going() else {
-            return Err(OutOfMemory);
+            return Err(Stopped::Broken(Breach::NoTask));
         };
         let (task, number) = going;
         match self.file_at(party, task)? {
             Some(file) => part_at(client, Part::Resume { task, number, file }),
-            None => Err(OutOfMemory),
+            None => Err(Stopped::Broken(Breach::NoTask)),
         }
     }
 }
 
 /// The client of this number takes this part.
-fn part_at(client: u64, part: Part) -> Result<(usize, Part), OutOfMemory>
+fn part_at(client: u64, part: Part) -> Result<(usize, Part), Stopped>
     ensures { IfOk result (λ it. (client ≡ suc it.0) × (it.1 ≡ part)) }
 {
     match place_of(client) {
         Some(c) => Ok((c, part)),
-        None => Err(OutOfMemory),
+        None => Err(Stopped::Broken(Breach::NoClient)),
     }
 }
 
-/// The server is closed where memory is wanting.
-fn refuse(server: Server) -> Result<Server, OutOfMemory>
+/// The server is closed, and the event stopped so.
+fn refuse(server: Server, stopped: Stopped) -> Result<Server, Stopped>
     ensures { IsErr result }
 {
     server.close();
-    Err(OutOfMemory)
+    Err(stopped)
 }

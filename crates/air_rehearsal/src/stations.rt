@@ -15,7 +15,6 @@ ghost use Rattle.air_rehearsal.specs.Asking.{MayResume, MayTakeFile};
 ghost use Rattle.air_rehearsal.specs.Numbers.{numbered, place_numbered};
 ghost use Rattle.air_rehearsal.specs.Worlds.{PlaysStations};
 ghost use Rattle.disk_model.specs.Cuts.{cuts_by};
-ghost use Rattle.air_rehearsal.specs.Halfway.{StopsOpening, TriesToOpen, TriesToStart};
 ghost use Rattle.air_rehearsal.specs.Opening.{OpensAll, OpensClient, OpensFirst};
 ghost use Rattle.air_rehearsal.specs.Ready.{AreReady, IsReadyParty, IsReadyServer};
 ghost use Rattle.air_rehearsal.specs.ServerCalls.{IsRestarted, IsStarted};
@@ -26,13 +25,14 @@ use crate::cuts::Cut;
 use crate::lane::Lane;
 use crate::party::Party;
 use crate::report::Report;
+use crate::stopped::{Breach, Stopped};
 use air_schedule::Event;
 use client_notes::laws::images_law;
 use disk_model::CutDisk;
 use file_store::Limits;
 use ftl0_server::Server;
 use px_base::laws::one_call;
-use px_base::{Call, Moment, OutOfMemory};
+use px_base::{Call, Moment};
 use std::alloc::Global;
 
 /// The characters of the server's call.
@@ -67,18 +67,16 @@ impl Stations {
         disks: &mut [B],
         k: u8,
         calls: &[Call],
-    ) -> Result<Stations, OutOfMemory>
+    ) -> Result<Stations, Stopped>
         requires window { IsGoodK k }
         requires enough { length calls.now ≤ length disks.old }
         ensures k { IfOk result (λ stations. stations.k ≡ k) }
         ensures ready { IfOk result (λ stations. AreReady B.Disk stations.parties.items disks.new) }
         ensures opens { IfOk result (OpensAll B.Disk (cuts_by B.restarts B.arming B.plain B.is_starved) k calls.now
             disks.old disks.new) }
-        ensures stops { OnErr result (StopsOpening B.Disk (cuts_by B.restarts B.arming B.plain B.is_starved)
-            (length calls.now) disks.old disks.new) }
     {
         let Ok(me) = Call::read(SERVER) else {
-            return Err(OutOfMemory);
+            return Err(Stopped::Broken(Breach::NotMade));
         };
         one_call();
         let parties = open_parties(alloc, disks, me, k, calls)?;
@@ -95,34 +93,32 @@ impl Stations {
     }
 
     /// The server starts for the first time: its disk isn't armed from then on. Takes memory.
-    pub(crate) fn start<B: CutDisk>(&self, disk: &mut B) -> Result<Server, OutOfMemory>
+    pub(crate) fn start<B: CutDisk>(&self, disk: &mut B) -> Result<Server, Stopped>
         requires { IsGoodK self.now.k }
         ensures ready { IfOk result (λ server. IsReadyServer B.Disk self.now server disk.new) }
         ensures starts { IfOk result (IsStarted B.Disk (cuts_by B.restarts B.arming B.plain B.is_starved) self.now
             disk.old disk.new) }
         ensures memory { IsOk result → B.is_starved disk.new ≡ false }
-        ensures tries { TriesToOpen B.Disk (cuts_by B.restarts B.arming B.plain B.is_starved) the_server
-            disk.old disk.new }
     {
         disk.arm(None);
         let server = self.restart_server(disk)?;
         if disk.starved() {
             server.close();
-            return Err(OutOfMemory);
+            return Err(Stopped::OutOfMemory);
         }
         Ok(server)
     }
 
     /// The server starts from the store of its disk. Takes memory.
-    pub(crate) fn restart_server<B: CutDisk>(&self, disk: &mut B) -> Result<Server, OutOfMemory>
+    pub(crate) fn restart_server<B: CutDisk>(&self, disk: &mut B) -> Result<Server, Stopped>
         requires { IsGoodK self.now.k }
         ensures ready { IfOk result (λ server. IsReadyServer B.Disk self.now server disk.new) }
         ensures restarts { IfOk result (IsRestarted B.Disk self.now disk.old disk.new) }
-        ensures tries { TriesToStart B.Disk the_server disk.old disk.new }
+        ensures lasts { B.lasts disk.old disk.new }
     {
         match Server::start(self.alloc, disk, LIMITS, self.me, self.k) {
             Ok(server) => Ok(server),
-            Err(_) => Err(OutOfMemory),
+            Err(fault) => Err(Stopped::of_store(fault)),
         }
     }
 
@@ -232,14 +228,12 @@ fn open_parties<B: CutDisk>(
     server: Call,
     k: u8,
     calls: &[Call],
-) -> Result<Vec<Party>, OutOfMemory>
+) -> Result<Vec<Party>, Stopped>
     requires window { IsGoodK k }
     requires enough { length calls.now ≤ length disks.old }
     ensures ready { IfOk result (λ parties. AreReady B.Disk parties.items disks.new) }
     ensures opens { IfOk result (λ parties. OpensFirst B.Disk (cuts_by B.restarts B.arming B.plain B.is_starved)
         server k (length calls.now) calls.now disks.old disks.new parties.items) }
-    ensures stops { OnErr result (StopsOpening B.Disk (cuts_by B.restarts B.arming B.plain B.is_starved)
-        (length calls.now) disks.old disks.new) }
 {
     let mut parties = Vec::new(alloc);
     for c in 0..calls.len() {
@@ -256,19 +250,17 @@ fn open_party<B: CutDisk>(
     server: Call,
     me: Call,
     k: u8,
-) -> Result<Party, OutOfMemory>
+) -> Result<Party, Stopped>
     requires { IsGoodK k }
     ensures ready { IfOk result (λ party. IsReadyParty B.Disk party disk.new) }
     ensures opens { IfOk result (λ party. (c : ℕ) →
         OpensClient B.Disk (cuts_by B.restarts B.arming B.plain B.is_starved) server k c me
         (record { before = disk.old; after = disk.new; party = party })) }
-    ensures tries { (c : ℕ) →
-        TriesToOpen B.Disk (cuts_by B.restarts B.arming B.plain B.is_starved) (client_at c) disk.old disk.new }
 {
     disk.arm(None);
     let party = Party::open(alloc, disk, server, me, k)?;
     if disk.starved() {
-        return Err(OutOfMemory);
+        return Err(Stopped::OutOfMemory);
     }
     images_law(party.client.notes(), disk);
     Ok(party)

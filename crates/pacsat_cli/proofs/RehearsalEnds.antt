@@ -4,8 +4,10 @@ use Rattle.px_base.specs.declared.out.Out.{Ghosts as OutGhosts}
 use Rattle.px_base.specs.declared.shelf.ShelfRefusal.TheVariants as refusal
 use Rattle.air_schedule.specs.Schedule.{Schedule}
 use Rattle.air_rehearsal.specs.declared.report.Report.{Report}
-use Rattle.pacsat_cli.specs.Rehearsing.{EndsExactly}
-use Rattle.pacsat_cli.proofs.Names.{Contains, Option, None, Some, Err, Gains, GainsPrefix, Rose, Holding, Loads, content_of, ShelfRefusal, Gains-front, Gains-none, Cuts, Ghosts, FirstBadLine, OneSchedule, ScheduleText, IsUnlawful, Status, Done, NoSuch, OutOfMemory, Out, Shelf, BadSchedule, TooLong, ContentEnd, IsUnlawfulAt, PlaysText, RehearsalEnd, ReportShown, ShowsReport, TextEnd, most_text, report_line, says_report, IsUnless, status_of_load}
+use Rattle.air_rehearsal.specs.Generator.{DrivenBy}
+use Rattle.pacsat_cli.specs.Rehearsing.{EndsExactly, IsBroken}
+use Rattle.pacsat_cli.specs.declared.status.Status.TheVariants.{Broken}
+use Rattle.pacsat_cli.proofs.Names.{Contains, Option, None, Some, Err, Gains, GainsPrefix, Rose, Holding, Loads, content_of, ShelfRefusal, Gains-front, Gains-none, Cuts, Ghosts, FirstBadLine, OneSchedule, ScheduleText, IsUnlawful, Status, Done, NoSuch, OutOfMemory, Out, Shelf, BadSchedule, TooLong, CanTell, ContentEnd, DrawnEnd, IsUnlawfulAt, PlaysText, RehearsalEnd, ReportShown, ShowsReport, TextEnd, most_text, report_line, says_report, IsUnless, status_of_load}
 use Rattle.pacsat_cli.proofs.Loading.{long, none}
 
 module _ {O : Type 0} (o : OutGhosts O) (before : O) where
@@ -61,6 +63,7 @@ report-shown o before now IsPlayed report s played shown =
 module _ {B : Type 0} (g : Ghosts B) (cuts : Cuts B) where
   text-end : (octets : List ℕ) (old new : List B) (text : List ℕ) (s : Status) → ShowsReport (PlaysText g cuts octets old new) text s → TextEnd g cuts octets old new text s
   text-end octets old new text (BadSchedule line) h = absurd h
+  text-end octets old new text (Broken line what) h = absurd h
   text-end octets old new text s h = h
 
   -- a schedule was played to its end
@@ -69,6 +72,11 @@ module _ {B : Type 0} (g : Ghosts B) (cuts : Cuts B) where
       ends-so o before (ShowsReport (PlaysText g cuts octets old new)) (ContentEnd g cuts octets old new) now s
       (λ text h. record { most = most; ends = text-end octets old new text s h })
       (report-shown o before now (PlaysText g cuts octets old new) report s plays shown)
+
+  -- what was drawn was played to its end
+  pub drawn-end : (seed count : ℕ) (old new : List B) (text : List ℕ) (s : Status) → ShowsReport (λ report. CanTell g new → DrivenBy g cuts seed count old new report) text s → DrawnEnd g cuts seed count old new text s
+  drawn-end seed count old new text (Broken line what) h = absurd h
+  drawn-end seed count old new text s h = h
 
   -- nothing was loaded
   unloaded-end : (held : Option Holding) (name : List ℕ) (old : List B) (why : ShelfRefusal) → Loads held name most_text (Err why) → RehearsalEnd g cuts held name old old [] (status_of_load why)
@@ -131,6 +139,10 @@ module _ {B : Type 0} (g : Ghosts B) (cuts : Cuts B) where
           | inl first ↦ inl (line, subst IsLine same first.0, refl)
           | inr unlawful ↦ absurd (isnt unlawful.schedule (let IsText : List ℕ → Type 0 = λ o. ScheduleText unlawful.schedule o in subst IsText same unlawful.text))
         ]
+    no_schedule (Broken line what) h octets there short isnt =
+        let ends = h.2.ends in
+        let IsText : List ℕ → Type 0 = λ o. ScheduleText ends.0 o in
+        absurd (isnt ends.0 (subst IsText (same_octets h.0 octets h.1 there) ends.1))
     no_schedule Done h octets there short isnt =
         let plays = h.2.ends.1 in
         let IsText : List ℕ → Type 0 = λ o. ScheduleText plays.schedule o in
@@ -141,15 +153,15 @@ module _ {B : Type 0} (g : Ghosts B) (cuts : Cuts B) where
         absurd (isnt plays.schedule (subst IsText (same_octets h.0 octets h.1 there) plays.text))
     no_schedule s h octets there short isnt = absurd h.2.ends
 
-    is_schedule : (s : Status) → RehearsalEnd g cuts (Some shelf) name old new text s → (octets : List ℕ) (schedule : Schedule) → content_of shelf name ≡ Some octets → length octets ≤ most_text → ScheduleText schedule octets → IsUnlawfulAt g cuts schedule old new s ⊎ Contains (Done ∷ Out ∷ Shelf ∷ OutOfMemory ∷ []) s
+    is_schedule : (s : Status) → RehearsalEnd g cuts (Some shelf) name old new text s → (octets : List ℕ) (schedule : Schedule) → content_of shelf name ≡ Some octets → length octets ≤ most_text → ScheduleText schedule octets → IsUnlawfulAt g cuts schedule old new s ⊎ (IsBroken s ⊎ Contains (Done ∷ Out ∷ Shelf ∷ OutOfMemory ∷ []) s)
     is_schedule NoSuch h octets schedule there short is = absurd (let e = sym h.0 ∙ there in cc)
     is_schedule TooLong h octets schedule there short is =
         let same = same_octets h.0.0 octets h.0.1 there in
         absurd (omega (arith, h.0.2, short, ap length same))
-    is_schedule Shelf h octets schedule there short is = inr (2, omega arith, refl)
-    is_schedule OutOfMemory h octets schedule there short is = inr (3, omega arith, refl)
-    is_schedule Done h octets schedule there short is = inr (0, omega arith, refl)
-    is_schedule Out h octets schedule there short is = inr (1, omega arith, refl)
+    is_schedule Shelf h octets schedule there short is = inr (inr (2, omega arith, refl))
+    is_schedule OutOfMemory h octets schedule there short is = inr (inr (3, omega arith, refl))
+    is_schedule Done h octets schedule there short is = inr (inr (0, omega arith, refl))
+    is_schedule Out h octets schedule there short is = inr (inr (1, omega arith, refl))
     is_schedule (BadSchedule line) h octets schedule there short is =
         let IsText : List ℕ → Type 0 = λ o. ScheduleText schedule o in
         let text_is = subst IsText (sym (same_octets h.0 octets h.1 there)) is in
@@ -159,6 +171,7 @@ module _ {B : Type 0} (g : Ghosts B) (cuts : Cuts B) where
               let IsAt : Schedule → Type 0 = λ x. IsUnlawful g cuts x old new line in
               inl (line, refl, λ can. subst IsAt (one h.0 unlawful.schedule schedule unlawful.text text_is) (unlawful.unlawful can))
         ]
+    is_schedule (Broken line what) h octets schedule there short is = inr (inl (line, what, refl))
     is_schedule s h octets schedule there short is = absurd h.2.ends
 
     pub exactly : (s : Status) → RehearsalEnd g cuts (Some shelf) name old new text s → EndsExactly g cuts (content_of shelf name) old new s

@@ -21,6 +21,7 @@ is_play_status status.Shelf = true
 is_play_status status.Out = true
 is_play_status status.OutOfMemory = true
 is_play_status (status.BadSchedule line) = true
+is_play_status (status.Broken line what) = true
 is_play_status s = false
 
 module _ {B : Type 0} (g : Ghosts B) (cuts : Cuts B) (old new : List B) (text : List ℕ) where
@@ -28,6 +29,7 @@ module _ {B : Type 0} (g : Ghosts B) (cuts : Cuts B) (old new : List B) (text : 
   drawn-status seed count status.Done h = refl
   drawn-status seed count status.Out h = refl
   drawn-status seed count status.OutOfMemory h = refl
+  drawn-status seed count (status.Broken line what) h = refl
   drawn-status seed count s h = absurd h
 
   named-status : (held : Option Holding) (name : List ℕ) (s : Status) → RehearsalEnd g cuts held name old new text s → is_play_status s ≡ true
@@ -38,6 +40,7 @@ module _ {B : Type 0} (g : Ghosts B) (cuts : Cuts B) (old new : List B) (text : 
   named-status held name status.Out h = refl
   named-status held name status.OutOfMemory h = refl
   named-status held name (status.BadSchedule line) h = refl
+  named-status held name (status.Broken line what) h = refl
   named-status held name s h = absurd h.2.ends
 
   play-status : (held : Option Holding) (request : RehearseRequest) (s : Status) → PlayEnd g cuts held request old new text s → is_play_status s ≡ true

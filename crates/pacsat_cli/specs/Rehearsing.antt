@@ -14,12 +14,13 @@ use Rattle.air_rehearsal.specs.Counting.{report_text}
 use Rattle.air_rehearsal.specs.Generator.{DrivenBy}
 use Rattle.air_rehearsal.specs.Rehearsed.{CanTell, IsUnlawful, Rehearsed}
 use Rattle.air_rehearsal.specs.declared.report.Report.{Report}
+use Rattle.air_rehearsal.specs.declared.stopped.Breach.{Breach}
 use Rattle.command_words.specs.Words.{AsksRehearse, IsDrawn, IsRehearsal}
 use Rattle.command_words.specs.declared.rehearse.RehearseRequest.{RehearseRequest}
 use Rattle.command_words.specs.declared.rehearse.RehearseRequest.TheVariants as rehearse
 use Rattle.pacsat_cli.specs.declared.status.Status.{Status}
 use Rattle.pacsat_cli.specs.declared.status.Status.TheVariants.{Done, NoSuch, OutOfMemory, Out, Shelf, BadSchedule}
-use Rattle.pacsat_cli.specs.declared.status.Status.TheVariants.{TooLong}
+use Rattle.pacsat_cli.specs.declared.status.Status.TheVariants.{Broken, TooLong}
 use Rattle.pacsat_cli.specs.Run.{HasStatusCause, IsUnless, Shows}
 use Rattle.pacsat_cli.specs.Status.{line_of}
 
@@ -70,6 +71,10 @@ ShowsReport IsPlayed shown Out = (report : Report) × IsPlayed report × IsFront
 ShowsReport IsPlayed shown OutOfMemory = shown ≡ []
 ShowsReport IsPlayed shown status = ⊥
 
+-- the rehearsal found what never should be
+abbrev pub IsBroken : Status → Type 0
+IsBroken status = (line : ℕ) × (what : Breach) × (status ≡ Broken line what)
+
 module _ {B : Type 0} (g : Ghosts B) (cuts : Cuts B) where
   -- The octets are the text of a schedule, which was played to its end over these disks and came to this report.
   pub record PlaysText (octets : List ℕ) (old new : List B) (report : Report) : Type 0 where
@@ -92,6 +97,8 @@ module _ {B : Type 0} (g : Ghosts B) (cuts : Cuts B) where
   -- How the rehearsal of a text of these octets ended, by what was shown before the status's line.
   abbrev pub TextEnd : List ℕ → List B → List B → List ℕ → Status → Type 0
   TextEnd octets old new shown (BadSchedule line) = IsBadSchedule octets old new line × (shown ≡ [])
+  TextEnd octets old new shown (Broken line what) =
+      (schedule : Schedule) × ScheduleText schedule octets × (shown ≡ [])
   TextEnd octets old new shown status = ShowsReport (PlaysText octets old new) shown status
 
   -- The rehearsal of a text of these octets, which may be read whole, ended so.
@@ -111,6 +118,7 @@ module _ {B : Type 0} (g : Ghosts B) (cuts : Cuts B) where
 
   -- How a rehearsal ended that is drawn by this number, in so many rounds.
   abbrev pub DrawnEnd : ℕ → ℕ → List B → List B → List ℕ → Status → Type 0
+  DrawnEnd seed count old new shown (Broken line what) = shown ≡ []
   DrawnEnd seed count old new shown status =
       ShowsReport (λ report. CanTell g new → DrivenBy g cuts seed count old new report) shown status
 
@@ -126,7 +134,7 @@ module _ {B : Type 0} (g : Ghosts B) (cuts : Cuts B) where
 
   -- How a rehearsal ends, by the content of the name. But for a fault of the shelf and want of memory: where there is
   -- none, or it is too long, that is the status; where it is no schedule's text the status says the first line that
-  -- shows this; where it is a schedule's, it was played, or an event of it may not come.
+  -- shows this; where it is a schedule's, it was played, or an event of it may not come, or it broke.
   pub record EndsExactly (content : Option (List ℕ)) (old new : List B) (status : Status) : Type 0 where
     pub no_such : content ≡ None → IsUnless status NoSuch (Shelf ∷ OutOfMemory ∷ [])
     pub too_long :
@@ -140,7 +148,8 @@ module _ {B : Type 0} (g : Ghosts B) (cuts : Cuts B) where
     pub is_schedule :
         (octets : List ℕ) (schedule : Schedule) → content ≡ Some octets → length octets ≤ most_text
         → ScheduleText schedule octets
-        → IsUnlawfulAt schedule old new status ⊎ Contains (Done ∷ Out ∷ Shelf ∷ OutOfMemory ∷ []) status
+        → IsUnlawfulAt schedule old new status
+        ⊎ (IsBroken status ⊎ Contains (Done ∷ Out ∷ Shelf ∷ OutOfMemory ∷ []) status)
 
 -- whether the line of a report was put
 abbrev pub says_report : Status → Bool

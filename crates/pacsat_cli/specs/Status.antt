@@ -1,13 +1,15 @@
 -- The numbers that the process ends with, and the lines that say so.
-use Rattle.std.specs.Prelude.{ℕ, List, [], ◌++◌, codes, decimal}
+use Rattle.std.specs.Prelude.{ℕ, List, [], ◌++◌, codes, decimal, Option, None, Some}
 use Rattle.hex.specs.Hex.{encode_lower}
+use Rattle.air_rehearsal.specs.Breaches.{breach_words, place_of_breach}
+use Rattle.air_rehearsal.specs.declared.stopped.Breach.{Breach}
 use Rattle.uploader.specs.declared.sum.FileSum.{FileSum}
 use Rattle.pacsat_cli.specs.declared.status.BadStore.{BadStore}
 use Rattle.pacsat_cli.specs.declared.status.BadStore.TheVariants.{NotAStore, Damaged}
 use Rattle.pacsat_cli.specs.declared.status.RefusedBy.{RefusedBy}
 use Rattle.pacsat_cli.specs.declared.status.RefusedBy.TheVariants.{Shown, Server, Fault}
 use Rattle.pacsat_cli.specs.declared.status.Status.{Status}
-use Rattle.pacsat_cli.specs.declared.status.Status.TheVariants.{Done, Refused, Usage, AirRead, AirWrite, Disk, NoSuch, FileChanged, BadStore as bad_store, OutOfMemory, Spent, Out, Shelf, LinkDown, BadSchedule, Strange, NotesFull, TooLong}
+use Rattle.pacsat_cli.specs.declared.status.Status.TheVariants.{Done, Refused, Usage, AirRead, AirWrite, Disk, NoSuch, FileChanged, BadStore as bad_store, OutOfMemory, Spent, Out, Shelf, LinkDown, BadSchedule, Strange, NotesFull, TooLong, Broken}
 
 abbrev pub number_of : Status → ℕ
 number_of Done = 0
@@ -28,6 +30,7 @@ number_of (BadSchedule line) = 14
 number_of (Strange kind) = 15
 number_of NotesFull = 16
 number_of TooLong = 17
+number_of (Broken line what) = 22
 
 -- The line of content that is no store: its first eight octets in hexadecimal digits, in lower case; or the place of the
 -- damage in decimal digits.
@@ -53,6 +56,16 @@ sum_text sum = decimal sum.length ++ codes " " ++ encode_lower sum.digest
 abbrev pub changed_line : FileSum → FileSum → List ℕ
 changed_line kept given = codes "file changed " ++ sum_text kept ++ codes " " ++ sum_text given ++ codes "\n"
 
+-- a blank and the place of damage in decimal digits, if there is one
+abbrev pub place_text : Option ℕ → List ℕ
+place_text None = []
+place_text (Some at) = codes " " ++ decimal at
+
+-- the line of a rehearsal that broke: the number of its line, what was found, and the place of damage
+abbrev pub broken_line : ℕ → Breach → List ℕ
+broken_line line what =
+    codes "broken " ++ decimal line ++ codes " " ++ breach_words what ++ place_text (place_of_breach what) ++ codes "\n"
+
 abbrev pub line_of : Status → List ℕ
 line_of Done = []
 line_of (Refused by) = refused_line by
@@ -72,3 +85,4 @@ line_of (BadSchedule line) = numbered_line (codes "bad schedule ") line
 line_of (Strange kind) = numbered_line (codes "strange packet ") kind
 line_of NotesFull = codes "notes full\n"
 line_of TooLong = codes "too long\n"
+line_of (Broken line what) = broken_line line what

@@ -79,6 +79,7 @@ fn play_text<B: CutDisk, O: Out>(
         Ok(report) => show_report(alloc, &report, out),
         Err(RehearseStop::Unlawful { line }) => Status::BadSchedule { line },
         Err(RehearseStop::OutOfMemory) => Status::OutOfMemory,
+        Err(RehearseStop::Broken { line, what }) => Status::Broken { line, what },
     }
 }
 
@@ -96,7 +97,9 @@ fn play_drawn<B: CutDisk, O: Out>(
 {
     match drive(alloc, seed, count, bench) {
         Ok(report) => show_report(alloc, &report, out),
-        Err(_refused) => Status::OutOfMemory,
+        Err(RehearseStop::OutOfMemory) => Status::OutOfMemory,
+        Err(RehearseStop::Broken { line, what }) => Status::Broken { line, what },
+        Err(RehearseStop::Unlawful { .. }) => unreachable!(),
     }
 }
 

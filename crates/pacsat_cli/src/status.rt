@@ -3,10 +3,12 @@
 ghost use Rattle.std.specs.Prelude.{◌≡◌, ◌*◌, ◌+◌, ◌≤◌, ◌++◌, length};
 ghost use Rattle.arrayvec.specs.ArrayVec.{array_vec_len};
 ghost use Rattle.hex.specs.Hex.{encode_lower};
-ghost use Rattle.pacsat_cli.specs.Status.{bad_line, changed_line, line_of, number_of, numbered_line, sum_text};
+ghost use Rattle.pacsat_cli.specs.Status.{bad_line, broken_line, changed_line, line_of, number_of, numbered_line};
+ghost use Rattle.pacsat_cli.specs.Status.{place_text, sum_text};
 ghost use Rattle.pacsat_cli.specs.declared.status.BadStore.TheVariants.{NotAStore};
 ghost use Rattle.pacsat_cli.specs.Stops.{status_of_load as load_status};
 
+use air_rehearsal::Breach;
 use arrayvec::ArrayVec;
 use itoa::Buffer;
 use px_base::ShelfRefusal;
@@ -104,6 +106,14 @@ pub enum Status {
     NotesFull,
     /// The content of the name is longer than may be.
     TooLong,
+    /// A rehearsal found what never should be, as a store that isn't recovered.
+    Broken {
+        /// The number of the event's line, from 1 on; 0 while the stations start, the last line at the end. Of a
+        /// schedule that is drawn it is the event's number.
+        line: u64,
+        /// What was found.
+        what: Breach,
+    },
 }
 
 impl Status {
@@ -130,6 +140,7 @@ impl Status {
             Status::Strange { .. } => 15,
             Status::NotesFull => 16,
             Status::TooLong => 17,
+            Status::Broken { .. } => 22,
         }
     }
 
@@ -159,6 +170,7 @@ impl Status {
             Status::Strange { kind } => numbered("strange packet ", u64::from(*kind)),
             Status::NotesFull => text("notes full\n"),
             Status::TooLong => text("too long\n"),
+            Status::Broken { line, what } => line_of_breach(*line, what),
         }
     }
 }
@@ -204,6 +216,32 @@ fn line_of_content(found: &[u8; 8]) -> Line
     push_hex(&mut line, found);
     push(&mut line, b"\n");
     line
+}
+
+/// The line of a rehearsal that broke: the number of its line, what was found, and the place of damage.
+fn line_of_breach(number: u64, what: &Breach) -> Line
+    ensures { result.items ≡ broken_line number what.now }
+{
+    let mut line = text("broken ");
+    push(&mut line, Buffer::new().format(number).as_bytes());
+    push(&mut line, b" ");
+    push(&mut line, what.words().as_bytes());
+    push_place(&mut line, what.place());
+    push(&mut line, b"\n");
+    line
+}
+
+/// Adds a blank and the place of damage in decimal digits, if there is one.
+fn push_place(line: &mut Line, place: Option<u64>)
+    requires { array_vec_len line.old + 21 ≤ LINE_ROOM }
+    ensures text { line.new.items ≡ line.old.items ++ place_text place }
+    ensures len { array_vec_len line.new ≤ array_vec_len line.old + 21 }
+{
+    let Some(at) = place else {
+        return;
+    };
+    push(line, b" ");
+    push(line, Buffer::new().format(at).as_bytes());
 }
 
 /// Adds a file's length in decimal digits, a blank, and its digest in hexadecimal digits, in lower case.

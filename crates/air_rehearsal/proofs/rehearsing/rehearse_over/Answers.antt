@@ -1,27 +1,19 @@
-use Rattle.std.proofs.Common.{◌≡◌, ◌∷◌, ℕ, Ok, Err, IsErrAnd, Result, ◌+◌, ◌≤◌, length, sym, ap, inl, inr, ◌∙◌, subst, arith, refl}
+use Rattle.std.proofs.Common.{◌≡◌, ◌∷◌, ℕ, ◌+◌, ◌≤◌, length, sym, ap, ◌∙◌, subst, arith, refl}
 use Rattle.std.proofs.Common.{◌%◌}
 use Rattle.air_rehearsal.specs.declared.rehearsing.RehearseStop.TheVariants as stop
-use Rattle.air_rehearsal.proofs.Names.{List, map, slice_get, Some, false, true, option_map, length-map, slice_get-map, slice_get_read, cuts_by, CallSign, IsAllowed, IsPossible, Event, IsInRange, World, event_value, StopsOpening, OpensAll, bench_of, CanCount, the_server}
-use Rattle.air_rehearsal.proofs.Along.{all_there, ends_there, goes_along, stops_there, wants_at_end, wants_there}
+use Rattle.air_rehearsal.proofs.Names.{List, map, slice_get, Some, false, true, option_map, length-map, slice_get-map, slice_get_read, cuts_by, CallSign, Event, IsInRange, World, event_value, OpensAll, bench_of, CanCount, the_server}
+use Rattle.air_rehearsal.proofs.Along.{all_there, ends_there, goes_along, stops_there}
 use Rattle.air_rehearsal.proofs.FirstBench.{played_first}
-use Rattle.air_rehearsal.proofs.HalfwayOpening.{all_opened, stopped_opening}
 use Rattle.air_rehearsal.proofs.rehearsing.rehearse_over.Goals as goal
 
--- want of memory is no unlawful event
-no_event :
-    {T : Type 0} (result : Result T stop.the_data) → IsErrAnd result (λ why. why ≡ stop.OutOfMemory) → (line : ℕ)
-    → result ≡ Err (stop.Unlawful line) → ⊥
-no_event (Ok it) memory line is = absurd memory
-no_event (Err (stop.Unlawful other)) memory line is = cc
-no_event (Err stop.OutOfMemory) memory line is = cc
+-- a rehearsal that stopped isn't unlawful
+pub returns-in-Err-clause-unlawful : goal.returns-in-Err-clause-unlawful
+returns-in-Err-clause-unlawful g c = λ line is tell.
+    let same : c.ended.result ≡ stop.Unlawful line = cc in absurd (c.ended.ensures line same)
 
-pub returns-in_err-stations-clause-unlawful : goal.returns-in_err-stations-clause-unlawful
-returns-in_err-stations-clause-unlawful g c = λ line is tell.
-    absurd (no_event c.from_residual.result c.from_residual.ensures.1 line is)
-
-pub returns-in_err-server-clause-unlawful : goal.returns-in_err-server-clause-unlawful
-returns-in_err-server-clause-unlawful g c = λ line is tell.
-    absurd (no_event c.from_residual-in_err-server.result c.from_residual-in_err-server.ensures.1 line is)
+pub returns-in-Err-start-clause-unlawful : goal.returns-in-Err-start-clause-unlawful
+returns-in-Err-start-clause-unlawful g c = λ line is tell.
+    let same : c.ended-in-Err-start.result ≡ stop.Unlawful line = cc in absurd (c.ended-in-Err-start.ensures line same)
 
 -- the event at this place of the schedule
 event_at :
@@ -35,19 +27,19 @@ loop-event-init g c =
     let cuts = cuts_by g.B.CutDisk.restarts g.B.CutDisk.arming g.B.CutDisk.plain g.B.CutDisk.is_starved in
     let it = c.args.schedule.now in
     let opens = subst
-    (λ (k : ℕ). OpensAll g.B.Disk cuts k it.calls c.args.disks.now c.open.new.disks c.in_ok-stations.stations)
+    (λ (k : ℕ). OpensAll g.B.Disk cuts k it.calls c.args.disks.now c.open.new.disks c.in-Ok.stations)
     c.window.ensures (subst
     (λ (calls : List CallSign). OpensAll g.B.Disk cuts c.window.result calls c.args.disks.now c.open.new.disks
-    c.in_ok-stations.stations) c.clients.ensures c.in_ok-stations.ensures.opens) in
+    c.in-Ok.stations) c.clients.ensures c.in-Ok.ensures.opens) in
     record {
-      server = c.in_ok-server.ensures.ready;
-      clients = c.in_ok-stations.ensures.ready;
+      server = c.in-Ok-start.ensures.ready;
+      clients = c.in-Ok.ensures.ready;
       played = λ can. (
         _,
         played_first g.B.Disk cuts g.met.B.CutDisk.lasts_so g.met.B.Disk.content_is_image g.met.B.Disk.counts_now
             c.sound_law.ensures it c.fits_law.ensures c.args.disk.now c.start.new.disk
-            c.args.disks.now c.open.new.disks c.requires c.in_ok-stations.stations c.in_ok-server.server
-            opens (c.in_ok-server.ensures.starts) (c.in_ok-server.ensures.memory refl),
+            c.args.disks.now c.open.new.disks c.requires c.in-Ok.stations c.in-Ok-start.server
+            opens (c.in-Ok-start.ensures.starts) (c.in-Ok-start.ensures.memory refl),
       );
       line = (let same = ap length c.clients-2.ensures in let e : 2 + length c.clients-2.result.now ≡ 2 + length it.calls + 0 = omega (arith, same) in e);
     }
@@ -71,16 +63,16 @@ play-requires-clause-server g c = c.loop-event.invariant.server
 pub play-requires-clause-clients : goal.play-requires-clause-clients
 play-requires-clause-clients g c = c.loop-event.invariant.clients
 
-pub returns-in_err-server-2-clause-unlawful : goal.returns-in_err-server-2-clause-unlawful
-returns-in_err-server-2-clause-unlawful g c = λ line is tell.
-    absurd (no_event c.from_residual-in_err-server-2.result c.from_residual-in_err-server-2.ensures.1 line is)
+pub returns-in-Err-play-clause-unlawful : goal.returns-in-Err-play-clause-unlawful
+returns-in-Err-play-clause-unlawful g c = λ line is tell.
+    let same : c.ended-in-Err-play.result ≡ stop.Unlawful line = cc in absurd (c.ended-in-Err-play.ensures line same)
 
 pub loop-event-preserved : goal.loop-event-preserved
 loop-event-preserved g c =
     let cuts = cuts_by g.B.CutDisk.restarts g.B.CutDisk.arming g.B.CutDisk.plain g.B.CutDisk.is_starved in
     let it = c.args.schedule.now in
     let l = c.loop-event in
-    let came = c.in_ok-server-2.ensures in
+    let came = c.in-Ok-play.ensures in
     record {
       server = came.server;
       clients = came.clients;
@@ -89,7 +81,7 @@ loop-event-preserved g c =
           let played = l.invariant.played could in
           goes_along g.B.Disk cuts it l.event-index (c.args.disk.now ∷ c.args.disks.now)
           (bench_of l.stations l.server l.disk l.disks)
-          (bench_of c.play.new.self c.in_ok-server-2.server c.play.new.disk c.play.new.disks) _
+          (bench_of c.play.new.self c.in-Ok-play.server c.play.new.disk c.play.new.disks) _
           (event_at event_value c.events-events.result.now it.events l.event-index _ c.events-events.ensures (slice_get_read c.events-events.result.now _ l.event-index _ refl c.loop-event-test.true c.event-item.is))
           played (came.plays _ played.1.playing could (record {
             in_range =
@@ -107,21 +99,21 @@ loop-event-preserved g c =
           omega (arith, was, few, many.0, many.1, c.loop-event-test.true, l.auto.event-index-end) in e);
     }
 
-pub returns-in_err-end-clause-unlawful : goal.returns-in_err-end-clause-unlawful
-returns-in_err-end-clause-unlawful g c = λ line is tell.
-    absurd (no_event c.from_residual-in_err-end.result c.from_residual-in_err-end.ensures.1 line is)
+pub returns-in-Err-end-clause-unlawful : goal.returns-in-Err-end-clause-unlawful
+returns-in-Err-end-clause-unlawful g c = λ line is tell.
+    let same : c.ended-in-Err-end.result ≡ stop.Unlawful line = cc in absurd (c.ended-in-Err-end.ensures line same)
 
-pub returns-clause-rehearsed : goal.returns-clause-rehearsed
-returns-clause-rehearsed g c = λ tell.
+pub returns-in-Ok-end-clause-rehearsed : goal.returns-in-Ok-end-clause-rehearsed
+returns-in-Ok-end-clause-rehearsed g c = λ tell.
     let cuts = cuts_by g.B.CutDisk.restarts g.B.CutDisk.arming g.B.CutDisk.plain g.B.CutDisk.is_starved in
     let it = c.args.schedule.now in
     let l = c.loop-event in
-    let lasts = g.met.B.CutDisk.lasts_so l.disk c.end.new.disk c.end.ensures.tries.lasts in
+    let lasts = g.met.B.CutDisk.lasts_so l.disk c.end.new.disk c.end.ensures.lasts in
     let could : CanCount g.B.Disk l.disk =
     (let on = lasts.writes in let can = tell c.end.new.disk refl in omega (arith, on, can)) in
     let played = l.invariant.played could in
     let bench = played.1.playing.bench in
-    let ends = c.in_ok-end.ensures.ends _ bench.sound bench.plays.stations bench.plays.blocks (bench.stands the_server _ refl) in
+    let ends = c.in-Ok-end.ensures.ends _ bench.sound bench.plays.stations bench.plays.blocks (bench.stands the_server _ refl) in
     ends_there g.B.Disk cuts it l.event-index g.met.B.CutDisk.lasts_so (c.args.disk.now ∷ c.args.disks.now)
     (bench_of l.stations l.server l.disk l.disks) c.requires c.fits_law.ensures played
     (record {
@@ -131,66 +123,4 @@ returns-clause-rehearsed g c = λ tell.
       schedules = c.schedule_law.ensures;
       follows = c.follows_law.ensures;
     })
-    c.end.new.disk c.in_ok-end.field-0 (let same = ap length c.events-events.ensures in let e : length it.events ≤ l.event-index = omega (arith, same, length-map c.events-events.result.now event_value, c.loop-event-test.false, l.auto.event-index-end) in e) ends
-
--- ---- memory was wanting
-
-may_come : (world : World) (event : Event) → IsInRange event → IsPossible world event → IsAllowed world event
-may_come world event in_range possible = record { in_range = in_range; possible = possible }
-
-pub returns-in_err-stations-clause-wants_memory : goal.returns-in_err-stations-clause-wants_memory
-returns-in_err-stations-clause-wants_memory g c = λ is tell.
-    let cuts = cuts_by g.B.CutDisk.restarts g.B.CutDisk.arming g.B.CutDisk.plain g.B.CutDisk.is_starved in
-    inl
-    (stopped_opening g.B.Disk cuts g.met.B.CutDisk.lasts_so g.met.B.Disk.counts_now c.args.schedule.now
-    c.args.disk.now c.args.disk.now c.args.disks.now c.open.new.disks c.requires (inr refl)
-    (subst
-    (λ (calls : List CallSign). StopsOpening g.B.Disk cuts (length calls) c.args.disks.now c.open.new.disks)
-    c.clients.ensures c.in_err-stations.ensures.stops))
-
-pub returns-in_err-server-clause-wants_memory : goal.returns-in_err-server-clause-wants_memory
-returns-in_err-server-clause-wants_memory g c = λ is tell.
-    let cuts = cuts_by g.B.CutDisk.restarts g.B.CutDisk.arming g.B.CutDisk.plain g.B.CutDisk.is_starved in
-    inl
-    (stopped_opening g.B.Disk cuts g.met.B.CutDisk.lasts_so g.met.B.Disk.counts_now c.args.schedule.now
-    c.args.disk.now c.start.new.disk c.args.disks.now c.open.new.disks c.requires (inl c.start.ensures.tries)
-    (subst
-    (λ (calls : List CallSign). StopsOpening g.B.Disk cuts (length calls) c.args.disks.now c.open.new.disks)
-    c.clients.ensures
-    (all_opened g.B.Disk cuts c.window.result c.clients.result.now c.args.disks.now c.open.new.disks
-    c.in_ok-stations.stations c.in_ok-stations.ensures.opens)))
-
-pub returns-in_err-server-2-clause-wants_memory : goal.returns-in_err-server-2-clause-wants_memory
-returns-in_err-server-2-clause-wants_memory g c = λ is tell.
-    let cuts = cuts_by g.B.CutDisk.restarts g.B.CutDisk.arming g.B.CutDisk.plain g.B.CutDisk.is_starved in
-    let it = c.args.schedule.now in
-    let l = c.loop-event in
-    let could : CanCount g.B.Disk l.disk =
-    (let on = c.play.ensures.faults in let can = tell c.play.new.disk refl in omega (arith, on, can)) in
-    let played = l.invariant.played could in
-    let bench = played.1.playing.bench in
-    let here =
-    event_at event_value c.events-events.result.now it.events l.event-index _ c.events-events.ensures
-    (slice_get_read c.events-events.result.now _ l.event-index _ refl c.loop-event-test.true c.event-item.is) in
-    let allowed =
-    may_come _ _ (all_there IsInRange it.events l.event-index _ c.fits_law.ensures.in_range here)
-    ((c.if-not-allows.ensures _ bench.sound bench.plays.stations).0 refl) in
-    wants_there g.B.Disk cuts it l.event-index g.met.B.CutDisk.lasts_so (c.args.disk.now ∷ c.args.disks.now)
-    (bench_of l.stations l.server l.disk l.disks) c.requires c.fits_law.ensures played g.met.B.Disk.counts_now
-    c.stores_law.ensures _ (c.play.new.disk ∷ c.play.new.disks) here allowed
-    (c.in_err-server-2.ensures.stops _ played.1.playing could allowed)
-
-pub returns-in_err-end-clause-wants_memory : goal.returns-in_err-end-clause-wants_memory
-returns-in_err-end-clause-wants_memory g c = λ is tell.
-    let cuts = cuts_by g.B.CutDisk.restarts g.B.CutDisk.arming g.B.CutDisk.plain g.B.CutDisk.is_starved in
-    let it = c.args.schedule.now in
-    let l = c.loop-event in
-    let lasts = g.met.B.CutDisk.lasts_so l.disk c.end.new.disk c.end.ensures.tries.lasts in
-    let could : CanCount g.B.Disk l.disk =
-    (let on = lasts.writes in let can = tell c.end.new.disk refl in omega (arith, on, can)) in
-    wants_at_end g.B.Disk cuts it l.event-index g.met.B.CutDisk.lasts_so (c.args.disk.now ∷ c.args.disks.now)
-    (bench_of l.stations l.server l.disk l.disks) c.requires c.fits_law.ensures (l.invariant.played could)
-    g.met.B.Disk.counts_now c.end.new.disk
-    (let same = ap length c.events-events.ensures in
-    let e : length it.events ≤ l.event-index = omega (arith, same, length-map c.events-events.result.now event_value, c.loop-event-test.false, l.auto.event-index-end) in e)
-    c.end.ensures.tries
+    c.end.new.disk c.in-Ok-end.report (let same = ap length c.events-events.ensures in let e : length it.events ≤ l.event-index = omega (arith, same, length-map c.events-events.result.now event_value, c.loop-event-test.false, l.auto.event-index-end) in e) ends

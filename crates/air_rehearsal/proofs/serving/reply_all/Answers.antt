@@ -1,7 +1,8 @@
 -- Each frame is handed out by the server and replied in the attempt, until nothing is left.
-use Rattle.std.proofs.Common.{ℕ, List, refl, sym, subst, ◌∙◌}
+use Rattle.std.proofs.Common.{ℕ, List, refl, sym, ap, subst, ◌∙◌}
+use Rattle.ftl0_server.specs.ServerState.{server_pending}
 use Rattle.air_rehearsal.proofs.Names.{FrameText}
-use Rattle.air_rehearsal.proofs.ServingSent.{on-ok, replies-all, replies-first, replies-more}
+use Rattle.air_rehearsal.proofs.ServingSent.{replies-all, replies-first, replies-more}
 use Rattle.air_rehearsal.proofs.serving.reply_all.Goals as goal
 
 pub loop-out-init : goal.loop-out-init
@@ -22,9 +23,13 @@ loop-out-preserved c =
           (subst (λ (o : List ℕ). FrameText frame o) (sym c.as_slice.ensures.value) text)),
     )
 
+pub returns-clause-silent : goal.returns-clause-silent
+returns-clause-silent c =
+    ap server_pending (c.next_out.ensures.none c.loop-out-test.false) ∙ sym c.next_out.ensures.pending
+    ∙ c.loop-out-test.false
+
 pub returns-clause-replies : goal.returns-clause-replies
-returns-clause-replies c =
-    on-ok c.all_sent.result (λ store it is.
+returns-clause-replies c = λ store it is.
     replies-all store it c.loop-out.server c.next_out.new.self c.args.attempt.now c.loop-out.attempt c.loop-out.out.items
     c.next_out.new.out.items c.next_out.result (c.loop-out.invariant.1 store it is) c.loop-out-test.false
-    (c.next_out.ensures.next store) (c.next_out.ensures.settles store))
+    (c.next_out.ensures.next store) (c.next_out.ensures.settles store)

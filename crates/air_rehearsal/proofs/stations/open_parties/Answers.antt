@@ -1,8 +1,6 @@
 -- One client more is opened and ready, and those before are so still.
 use Rattle.std.proofs.Common.{◌≡◌, ℕ, ◌+◌, ◌<◌, List, [], ◌∷◌, ◌++◌, get_or, length, Some, sym, subst, rules, arith}
 use Rattle.air_rehearsal.proofs.Names.{slice_get, slice_set, slice_get-get_or, Cuts, cuts_by, OpensFirst, AreReady, Party}
-use Rattle.air_rehearsal.proofs.HalfwayOpening.{stops_opening}
-use Rattle.air_rehearsal.proofs.HalfwayServer.{on_err_of}
 use Rattle.air_rehearsal.proofs.OpeningLemmas.{none_ready, opens_more, opens_none}
 use Rattle.air_rehearsal.proofs.ReadyLemmas.{read_at, ready_more}
 use Rattle.air_rehearsal.proofs.stations.open_parties.Goals as goal
@@ -59,31 +57,3 @@ loop-c-preserved g c =
           (slice_set c.loop-c.disks c.loop-c.c disk_now) them)
           (sym items) opens;
     }
-
-pub returns-in_err-party-clause-stops : goal.returns-in_err-party-clause-stops
-returns-in_err-party-clause-stops g c =
-    let first = c.loop-c.invariant.opens in
-    let disk = get_or c.loop-c.disks c.loop-c.c c.index-disks-c.result in
-    let within : c.loop-c.c < length c.args.calls.now = search (rules, arith) in
-    let is_disk : slice_get c.loop-c.disks c.loop-c.c ≡ Some disk =
-    slice_get-get_or c.loop-c.disks c.loop-c.c c.index-disks-c.result
-    (let as_many = first.as_many in let enough = c.requires.enough in omega (arith, within, as_many, enough))
-    in
-    on_err_of c.from_residual.result _
-    (stops_opening g.B.Disk (cuts_by g.B.CutDisk.restarts g.B.CutDisk.arming g.B.CutDisk.plain g.B.CutDisk.is_starved) c.args.server c.args.k
-    c.loop-c.c c.args.calls.now c.args.disks.now c.loop-c.disks c.loop-c.parties.items first disk
-    c.open_party.new.disk within is_disk c.open_party.ensures.tries)
-
-pub returns-in_err-push-clause-stops : goal.returns-in_err-push-clause-stops
-returns-in_err-push-clause-stops g c =
-    let first = c.loop-c.invariant.opens in
-    let disk = get_or c.loop-c.disks c.loop-c.c c.index-disks-c.result in
-    let within : c.loop-c.c < length c.args.calls.now = search (rules, arith) in
-    let is_disk : slice_get c.loop-c.disks c.loop-c.c ≡ Some disk =
-    slice_get-get_or c.loop-c.disks c.loop-c.c c.index-disks-c.result
-    (let as_many = first.as_many in let enough = c.requires.enough in omega (arith, within, as_many, enough))
-    in
-    on_err_of c.from_residual-in_err-push.result _
-    (stops_opening g.B.Disk (cuts_by g.B.CutDisk.restarts g.B.CutDisk.arming g.B.CutDisk.plain g.B.CutDisk.is_starved) c.args.server c.args.k
-    c.loop-c.c c.args.calls.now c.args.disks.now c.loop-c.disks c.loop-c.parties.items first disk
-    c.open_party.new.disk within is_disk c.open_party.ensures.tries)

@@ -16,12 +16,3 @@ returns-clause-opens g c at = record {
       subst (λ (n : NotesState). EachImage g.B.Disk c.open.new.disk (λ image. StandsFor image n.lists)) c.notes.ensures
       c.images_law.ensures;
 }
-
-pub returns-in_err-party-clause-tries : goal.returns-in_err-party-clause-tries
-returns-in_err-party-clause-tries g c at = record { disarmed = c.arm.new.self; arms = c.arm.ensures; tries = c.open.ensures.tries at }
-
-pub returns-then-starved-clause-tries : goal.returns-then-starved-clause-tries
-returns-then-starved-clause-tries g c at = record { disarmed = c.arm.new.self; arms = c.arm.ensures; tries = c.open.ensures.tries at }
-
-pub returns-clause-tries : goal.returns-clause-tries
-returns-clause-tries g c at = record { disarmed = c.arm.new.self; arms = c.arm.ensures; tries = c.open.ensures.tries at }

@@ -2,8 +2,7 @@
 use Rattle.std.proofs.Common.{IfSome, ◌≡◌, ◌+◌, ◌%◌, ◌==◌, ℕ, List, None, Option, refl, sym, ap, subst, arith, ◌∙◌}
 use Rattle.air_rehearsal.proofs.Names.{option_map, cuts_by, event_value, Event, IsInRange, Driven, Drives, delivery_of, driven_by, Carries, Drawing, TriesIf, TriesTimes, between, drawn, fate_of, next_number, put_off, times_of, Bench, bench_of, Fate}
 use Rattle.air_rehearsal.proofs.DrawLemmas.{carries-more, delivery-fits, none-between, put-off, put-off-fits}
-use Rattle.air_rehearsal.proofs.DriveLemmas.{Owes, Then, drives_draws, drives_in, drives_then, owes_done, owes_more, owes_none, stops_then}
-use Rattle.air_rehearsal.proofs.HalfwayServer.{on_err_of}
+use Rattle.air_rehearsal.proofs.DriveLemmas.{Owes, Then, drives_draws, drives_in, drives_then, owes_done, owes_more, owes_none}
 use Rattle.air_rehearsal.proofs.generator.Driver.carry.Goals as goal
 
 pub loop-place-init : goal.loop-place-init
@@ -90,16 +89,3 @@ returns-clause-drives g c =
     subst (λ (numbers : List ℕ). Carries event (option_map event_value l.late) numbers x x)
     (sym (none-between l.place c.args.to (let past = c.loop-place-test.false in omega (arith, past)))) refl)
     l.invariant.drives
-
-pub returns-in_err-server-clause-stops : goal.returns-in_err-server-clause-stops
-returns-in_err-server-clause-stops g c =
-    let cuts = (cuts_by g.B.CutDisk.restarts g.B.CutDisk.arming g.B.CutDisk.plain g.B.CutDisk.is_starved) in
-    on_err_of c.from_residual.result _
-    (stops_then g.B.Disk cuts _ _ _ _ _ c.loop-place.invariant.drives c.in_err-server.ensures.stops)
-
-pub returns-in_err-server-2-clause-stops : goal.returns-in_err-server-2-clause-stops
-returns-in_err-server-2-clause-stops g c =
-    let cuts = (cuts_by g.B.CutDisk.restarts g.B.CutDisk.arming g.B.CutDisk.plain g.B.CutDisk.is_starved) in
-    on_err_of c.from_residual-in_err-server-2.result _
-    (stops_then g.B.Disk cuts _ _ _ _ _ c.loop-place.invariant.drives
-    (stops_then g.B.Disk cuts _ _ _ _ _ c.in_ok-server.ensures.drives c.in_err-server-2.ensures.stops))

@@ -2,9 +2,8 @@
 use Rattle.std.proofs.Common.{inl, inr, refl, arith}
 use Rattle.air_rehearsal.proofs.Names.{[], None, IfOk-weaker, cuts_by, to_client, Answers, Carries, between}
 use Rattle.air_rehearsal.proofs.DrawLemmas.{answers-carry, answers-tick, no-more, some-between}
-use Rattle.air_rehearsal.proofs.DriveLemmas.{drives_as, stops_then}
+use Rattle.air_rehearsal.proofs.DriveLemmas.{drives_as}
 use Rattle.air_rehearsal.proofs.ExchangeLemmas.{exchanged}
-use Rattle.air_rehearsal.proofs.HalfwayServer.{on_err}
 use Rattle.air_rehearsal.proofs.generator.Driver.exchange.Goals as goal
 
 pub carry-requires : goal.carry-requires
@@ -60,15 +59,3 @@ returns-clause-drives g c =
       | inr more ↦ omega (arith, more, other)
     ]) carries) carried))
     c.carry-2.ensures.drives
-
-pub returns-then-not-is_beyond-clause-stops : goal.returns-then-not-is_beyond-clause-stops
-returns-then-not-is_beyond-clause-stops g c =
-    let cuts = (cuts_by g.B.CutDisk.restarts g.B.CutDisk.arming g.B.CutDisk.plain g.B.CutDisk.is_starved) in
-    on_err c.tick.result _ _ c.tick.ensures.stops
-    (λ stops. stops_then g.B.Disk cuts _ _ _ _ _ c.in_ok-server.ensures.drives stops)
-
-pub returns-clause-stops : goal.returns-clause-stops
-returns-clause-stops g c =
-    let cuts = (cuts_by g.B.CutDisk.restarts g.B.CutDisk.arming g.B.CutDisk.plain g.B.CutDisk.is_starved) in
-    on_err c.carry-2.result _ _ c.carry-2.ensures.stops
-    (λ stops. stops_then g.B.Disk cuts _ _ _ _ _ c.in_ok-server.ensures.drives stops)

@@ -2,8 +2,7 @@
 use Rattle.std.proofs.Common.{◌≡◌, ◌+◌, ◌-◌, ℕ, refl, sym, ap, subst, arith, ◌∙◌}
 use Rattle.air_rehearsal.proofs.Names.{cuts_by, Drawing, Exchange, Exchanges, IsClosed, none_looked, still_looked, Looked}
 use Rattle.air_rehearsal.proofs.DrawLemmas.{exchanges-closed, exchanges-more}
-use Rattle.air_rehearsal.proofs.DriveLemmas.{Owes, drives_in, drives_none, owes_all, owes_done, owes_more, owes_none, stops_then}
-use Rattle.air_rehearsal.proofs.HalfwayServer.{on_err_of}
+use Rattle.air_rehearsal.proofs.DriveLemmas.{Owes, drives_in, drives_none, owes_all, owes_done, owes_more, owes_none}
 use Rattle.air_rehearsal.proofs.generator.Driver.exchange_all.Goals as goal
 
 pub loop-init : goal.loop-init
@@ -69,8 +68,3 @@ returns-clause-drives g c =
     (λ x.
     subst (λ (n : ℕ). Exchanges n client c.loop.looked x x)
     (let e : 0 ≡ 20 - c.loop.counter = omega (arith, c.loop-test.false) in e) refl) c.loop.invariant
-
-pub returns-in_err-server-clause-stops : goal.returns-in_err-server-clause-stops
-returns-in_err-server-clause-stops g c =
-    let cuts = (cuts_by g.B.CutDisk.restarts g.B.CutDisk.arming g.B.CutDisk.plain g.B.CutDisk.is_starved) in
-    on_err_of c.from_residual.result _ (stops_then g.B.Disk cuts _ _ _ _ _ c.loop.invariant c.in_err-server.ensures.stops)

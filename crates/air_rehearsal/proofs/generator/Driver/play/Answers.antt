@@ -3,8 +3,7 @@ use Rattle.std.proofs.Common.{◌≡◌, false, true, refl, sym, subst}
 use Rattle.air_schedule.specs.declared.event.Event.{Event as StoredEvent}
 use Rattle.air_rehearsal.proofs.Names.{Option, IfSome, option_map, IfOk-weaker, cuts_by, event_value, IsInRange, Drives, driven_by, TriesIf, bench_of}
 use Rattle.air_rehearsal.proofs.PlayParts.{on_ok_of}
-use Rattle.air_rehearsal.proofs.DriveLemmas.{drives_none, drives_refuses, played-drives, stops_first}
-use Rattle.air_rehearsal.proofs.HalfwayServer.{on_err}
+use Rattle.air_rehearsal.proofs.DriveLemmas.{drives_none, drives_refuses, played-drives}
 use Rattle.air_rehearsal.proofs.generator.Driver.play.Goals as goal
 
 pub play-requires-clause-server : goal.play-requires-clause-server
@@ -52,18 +51,3 @@ returns-clause-drives g c =
           (c.if-not-allows.ensures world playing.bench.sound playing.bench.plays.stations).0 refl;
     }) c.play.ensures.server c.play.ensures.clients (on_ok_of c.play.result _ c.play.ensures.faults)
     c.play.ensures.plays)
-
-pub returns-clause-stops : goal.returns-clause-stops
-returns-clause-stops g c =
-    let cuts = (cuts_by g.B.CutDisk.restarts g.B.CutDisk.arming g.B.CutDisk.plain g.B.CutDisk.is_starved) in
-    let old = bench_of c.args.self.now.stations c.args.server c.args.disk.now c.args.disks.now in
-    on_err c.play.result _ _ c.play.ensures.stops
-    (λ stops.
-    stops_first g.B.Disk cuts (event_value c.in-Some.event) old c.play.new.disk c.play.new.disks
-    (λ world playing. record {
-      in_range =
-          subst (λ (o : Option StoredEvent). IfSome o (λ it. IsInRange (event_value it))) c.in-Some.is
-          (c.requires.fits world playing.bench.sound playing.bench.plays.stations);
-      possible =
-          (c.if-not-allows.ensures world playing.bench.sound playing.bench.plays.stations).0 refl;
-    }) c.play.ensures.faults stops)

@@ -1,8 +1,7 @@
 -- A turn of each client, one after another.
 use Rattle.std.proofs.Common.{refl}
 use Rattle.air_rehearsal.proofs.Names.{IfOk-weaker, cuts_by, rounds, Turn, Turns}
-use Rattle.air_rehearsal.proofs.DriveLemmas.{Then, drives_as, drives_then, stops_then}
-use Rattle.air_rehearsal.proofs.HalfwayServer.{on_err, on_err_of}
+use Rattle.air_rehearsal.proofs.DriveLemmas.{Then, drives_as, drives_then}
 use Rattle.air_rehearsal.proofs.generator.Driver.round.Goals as goal
 
 pub turn-requires-2 : goal.turn-requires-2
@@ -21,17 +20,3 @@ returns-clause-drives g c =
     (drives_then g.B.Disk cuts (Then (Turn 1) (Turn 2)) (Turn 3) _ _ _
     (drives_then g.B.Disk cuts (Turn 1) (Turn 2) _ _ _ c.in_ok-server.ensures.drives c.in_ok-server-2.ensures.drives) third))
     c.turn-3.ensures.drives
-
-pub returns-in_err-server-2-clause-stops : goal.returns-in_err-server-2-clause-stops
-returns-in_err-server-2-clause-stops g c =
-    let cuts = (cuts_by g.B.CutDisk.restarts g.B.CutDisk.arming g.B.CutDisk.plain g.B.CutDisk.is_starved) in
-    on_err_of c.from_residual-in_err-server-2.result _
-    (stops_then g.B.Disk cuts _ _ _ _ _ c.in_ok-server.ensures.drives c.in_err-server-2.ensures.stops)
-
-pub returns-clause-stops : goal.returns-clause-stops
-returns-clause-stops g c =
-    let cuts = (cuts_by g.B.CutDisk.restarts g.B.CutDisk.arming g.B.CutDisk.plain g.B.CutDisk.is_starved) in
-    on_err c.turn-3.result _ _ c.turn-3.ensures.stops
-    (λ stops.
-    stops_then g.B.Disk cuts _ _ _ _ _ c.in_ok-server.ensures.drives
-    (stops_then g.B.Disk cuts _ _ _ _ _ c.in_ok-server-2.ensures.drives stops))

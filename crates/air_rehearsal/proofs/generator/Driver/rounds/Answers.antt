@@ -2,8 +2,7 @@
 use Rattle.std.proofs.Common.{◌≡◌, ℕ, ◌+◌, ◌-◌, refl, subst, arith}
 use Rattle.air_rehearsal.proofs.Names.{cuts_by, rounds, Turns}
 use Rattle.air_rehearsal.proofs.DrawLemmas.{rounds-more}
-use Rattle.air_rehearsal.proofs.DriveLemmas.{Owes, drives_as, owes_done, owes_more, owes_none, stops_then}
-use Rattle.air_rehearsal.proofs.HalfwayServer.{on_err_of}
+use Rattle.air_rehearsal.proofs.DriveLemmas.{Owes, drives_as, owes_done, owes_more, owes_none}
 use Rattle.air_rehearsal.proofs.generator.Driver.rounds.Goals as goal
 
 pub loop-init : goal.loop-init
@@ -36,8 +35,3 @@ returns-clause-drives g c =
     (λ x.
     subst (λ (n : ℕ). Turns (rounds n) x x) (let e : 0 ≡ count - i = omega (arith, c.loop-test.false) in e) refl)
     c.loop.invariant
-
-pub returns-in_err-server-clause-stops : goal.returns-in_err-server-clause-stops
-returns-in_err-server-clause-stops g c =
-    let cuts = (cuts_by g.B.CutDisk.restarts g.B.CutDisk.arming g.B.CutDisk.plain g.B.CutDisk.is_starved) in
-    on_err_of c.from_residual.result _ (stops_then g.B.Disk cuts _ _ _ _ _ c.loop.invariant c.in_err-server.ensures.stops)

@@ -1,7 +1,6 @@
 -- One tick after the other.
 use Rattle.air_rehearsal.proofs.Names.{IfOk-weaker, cuts_by, tick_client, tick_server, Tries}
-use Rattle.air_rehearsal.proofs.DriveLemmas.{drives_then, stops_then}
-use Rattle.air_rehearsal.proofs.HalfwayServer.{on_err}
+use Rattle.air_rehearsal.proofs.DriveLemmas.{drives_then}
 use Rattle.air_rehearsal.proofs.generator.Driver.tick.Goals as goal
 
 pub play-requires-clause-ready : goal.play-requires-clause-ready
@@ -23,9 +22,3 @@ returns-clause-drives g c =
     (λ later last.
     drives_then g.B.Disk cuts (Tries (tick_client c.args.client)) (Tries tick_server) _ _ _ c.in_ok-server.ensures.drives last)
     c.play-2.ensures.drives
-
-pub returns-clause-stops : goal.returns-clause-stops
-returns-clause-stops g c =
-    let cuts = (cuts_by g.B.CutDisk.restarts g.B.CutDisk.arming g.B.CutDisk.plain g.B.CutDisk.is_starved) in
-    on_err c.play-2.result _ _ c.play-2.ensures.stops
-    (λ stops. stops_then g.B.Disk cuts _ _ _ _ _ c.in_ok-server.ensures.drives stops)

@@ -1,8 +1,7 @@
 -- What is asked, what is exchanged, and what ends the turn.
 use Rattle.std.proofs.Common.{ap, subst, sym}
-use Rattle.air_rehearsal.proofs.Names.{IfOk-weaker, cuts_by, IsReadyBench, StopsDriving, Drawing, Exchanges, Takes, Turn, ending, none_looked, wish, bench_of, Stations}
-use Rattle.air_rehearsal.proofs.DriveLemmas.{Then, drives_as, drives_takes, drives_then, stops_then}
-use Rattle.air_rehearsal.proofs.HalfwayServer.{on_err, on_err_of}
+use Rattle.air_rehearsal.proofs.Names.{IfOk-weaker, cuts_by, IsReadyBench, Drawing, Exchanges, Takes, Turn, ending, none_looked, wish, bench_of, Stations}
+use Rattle.air_rehearsal.proofs.DriveLemmas.{Then, drives_as, drives_takes, drives_then}
 use Rattle.air_rehearsal.proofs.generator.Driver.turn.Goals as goal
 
 pub play-requires-clause-ready : goal.play-requires-clause-ready
@@ -58,41 +57,3 @@ returns-clause-drives g c =
     (drives_takes g.B.Disk cuts (λ state world. ending state client) c.ending-ending.result _ _ _
     (ap (λ (s : Stations). bench_of s c.in_ok-server-2.server c.exchange_all.new.disk c.exchange_all.new.disks)
     c.ending-ending.ensures.same) (λ world playing. c.ending-ending.ensures.ending) last))) c.play-2.ensures.drives
-
-pub returns-in_err-server-clause-stops : goal.returns-in_err-server-clause-stops
-returns-in_err-server-clause-stops g c =
-    let cuts = (cuts_by g.B.CutDisk.restarts g.B.CutDisk.arming g.B.CutDisk.plain g.B.CutDisk.is_starved) in
-    on_err_of c.from_residual.result _
-    (
-    subst
-    (λ (s : Stations).
-    StopsDriving g.B.Disk cuts (bench_of s c.args.server c.args.disk.now c.args.disks.now) c.play.new.disk c.play.new.disks)
-    c.wish-wish.ensures.same c.in_err-server.ensures.stops)
-
-pub returns-in_err-server-2-clause-stops : goal.returns-in_err-server-2-clause-stops
-returns-in_err-server-2-clause-stops g c =
-    let cuts = (cuts_by g.B.CutDisk.restarts g.B.CutDisk.arming g.B.CutDisk.plain g.B.CutDisk.is_starved) in
-    on_err_of c.from_residual-in_err-server-2.result _
-    (
-    subst
-    (λ (s : Stations).
-    StopsDriving g.B.Disk cuts (bench_of s c.args.server c.args.disk.now c.args.disks.now) c.exchange_all.new.disk c.exchange_all.new.disks)
-    c.wish-wish.ensures.same
-    (stops_then g.B.Disk cuts _ _ _ _ _ c.in_ok-server.ensures.drives c.in_err-server-2.ensures.stops))
-
-pub returns-clause-stops : goal.returns-clause-stops
-returns-clause-stops g c =
-    let cuts = (cuts_by g.B.CutDisk.restarts g.B.CutDisk.arming g.B.CutDisk.plain g.B.CutDisk.is_starved) in
-    on_err c.play-2.result _ _ c.play-2.ensures.stops
-    (λ stops.
-    subst
-    (λ (s : Stations).
-    StopsDriving g.B.Disk cuts (bench_of s c.args.server c.args.disk.now c.args.disks.now) c.play-2.new.disk c.play-2.new.disks)
-    c.wish-wish.ensures.same
-    (stops_then g.B.Disk cuts _ _ _ _ _ c.in_ok-server.ensures.drives
-    (stops_then g.B.Disk cuts _ _ _ _ _ c.in_ok-server-2.ensures.drives
-    (subst
-    (λ (s : Stations).
-    StopsDriving g.B.Disk cuts
-    (bench_of s c.in_ok-server-2.server c.exchange_all.new.disk c.exchange_all.new.disks) c.play-2.new.disk
-    c.play-2.new.disks) c.ending-ending.ensures.same stops))))

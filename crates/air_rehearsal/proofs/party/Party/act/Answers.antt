@@ -20,8 +20,3 @@ returns-clause-acts g c =
     (both.0 (happening (client_started whole) whole.coming).after (lanes_of whole.party.attempts) begins.client
     begins.lanes) c.say.ensures.keeps both.1.theirs.me))
     (ok_both c.say.result _ _ c.say.ensures.says c.say.ensures.ready)
-
-pub returns-clause-carries : goal.returns-clause-carries
-returns-clause-carries g c = λ seat whole at_seat is_part.
-    subst (λ (disk : g.row.D.Denot). CarriesPart g.D.Disk whole c.args.disk.now disk) (sym c.say.ensures.same)
-    (c.do_part.ensures.carries seat whole at_seat is_part)

@@ -22,18 +22,3 @@ returns-clause-begins g c =
     c.in_ok-ask.ensures.notes.notes
     c.note_task.ensures.keeps uploads)
     c.note_task.ensures.notes
-
-pub returns-in_default-clause-carries : goal.returns-in_default-clause-carries
-returns-in_default-clause-carries g c = λ seat whole at_seat asked.
-    (c.start.ensures.touches seat whole at_seat
-    (subst (λ (file : List ℕ). AsksNext seat c.args.upload file whole) (sym c.as_slice.ensures) asked)).touches.carries
-
-pub returns-in_err-ask-clause-carries : goal.returns-in_err-ask-clause-carries
-returns-in_err-ask-clause-carries g c = λ seat whole at_seat asked.
-    (c.start.ensures.touches seat whole at_seat
-    (subst (λ (file : List ℕ). AsksNext seat c.args.upload file whole) (sym c.as_slice.ensures) asked)).touches.carries
-
-pub returns-clause-carries : goal.returns-clause-carries
-returns-clause-carries g c = λ seat whole at_seat asked.
-    (c.start.ensures.touches seat whole at_seat
-    (subst (λ (file : List ℕ). AsksNext seat c.args.upload file whole) (sym c.as_slice.ensures) asked)).touches.carries

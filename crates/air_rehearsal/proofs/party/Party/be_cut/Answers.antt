@@ -1,7 +1,6 @@
 -- What power left on the disk stands for the notes after the first of the commands, from which the client starts again.
-use Rattle.std.proofs.Common.{refl, ap, ◌∙◌, subst, inl, List, ℕ, None}
-use Rattle.air_rehearsal.proofs.Names.{cuts_by, EachImage, task_count, NotesState, StandsFor, uploads_by, Party}
-use Rattle.air_rehearsal.proofs.HalfwayCuts.{part_failed, part_restarted}
+use Rattle.std.proofs.Common.{refl, ap, ◌∙◌, subst, List, ℕ, None}
+use Rattle.air_rehearsal.proofs.Names.{cuts_by, halted, EachImage, task_count, NotesState, StandsFor, uploads_by, Party}
 use Rattle.air_rehearsal.proofs.CutLemmas.{be_cut}
 use Rattle.air_rehearsal.proofs.party.Party.be_cut.Goals as goal
 
@@ -23,48 +22,10 @@ returns-clause-cut g c = λ seat whole at_seat is_part steady.
     (cuts_by g.B.CutDisk.restarts g.B.CutDisk.arming g.B.CutDisk.plain g.B.CutDisk.is_starved)
     g.met.B.Disk.counts_now g.met.B.CutDisk.lasts_so c.args.self.now touched again seat c.args.part whole
     c.args.cut.call c.args.disk.now c.arm.new.disk c.touch_disk-came.new.disk c.strike.new.disk c.restart.new.disk
-    c.touch_disk-came.result at_seat is_part steady c.arm.ensures images
+    (halted c.touch_disk-came.result) at_seat is_part steady c.arm.ensures images
     (c.touch_disk-came.ensures.touches seat whole at_seat is_part) c.in_ok-memory_found.ensures
     c.in_ok-strike.ensures.strikes restarts
     (record c.note_part.new.self { cut = None })
     (kept.me ∙ ap (λ (p : Party). p.me) restarts.keeps ∙ ap (λ (p : Party). p.me) keeps) c.requires.ready (ap (λ (p : Party). p.me) keeps)
     (ap (λ (p : Party). p.server) keeps) (ap (λ (p : Party). p.k) keeps) kept.client
     (kept.attempt ∙ ap (λ (p : Party). p.attempt) restarts.keeps) uploads refl
-
-pub returns-in_err-restart-clause-stops : goal.returns-in_err-restart-clause-stops
-returns-in_err-restart-clause-stops g c = λ seat whole at_seat is_part.
-    let cuts = (cuts_by g.B.CutDisk.restarts g.B.CutDisk.arming g.B.CutDisk.plain g.B.CutDisk.is_starved) in
-    part_restarted g.B.Disk cuts c.args.cut.call whole c.args.disk.now c.arm.new.disk c.touch_disk-came.new.disk
-    c.strike.new.disk c.restart.new.disk c.arm.ensures
-    (c.touch_disk-came.ensures.touches seat whole at_seat is_part).touches.carries c.in_ok-strike.ensures.strikes
-    c.restart.ensures.tries
-
-pub returns-in_err-note_part-clause-stops : goal.returns-in_err-note_part-clause-stops
-returns-in_err-note_part-clause-stops g c = λ seat whole at_seat is_part.
-    let cuts = (cuts_by g.B.CutDisk.restarts g.B.CutDisk.arming g.B.CutDisk.plain g.B.CutDisk.is_starved) in
-    part_restarted g.B.Disk cuts c.args.cut.call whole c.args.disk.now c.arm.new.disk c.touch_disk-came.new.disk
-    c.strike.new.disk c.restart.new.disk c.arm.ensures
-    (c.touch_disk-came.ensures.touches seat whole at_seat is_part).touches.carries c.in_ok-strike.ensures.strikes
-    c.restart.ensures.tries
-
-pub returns-clause-stops : goal.returns-clause-stops
-returns-clause-stops g c = λ seat whole at_seat is_part.
-    let cuts = (cuts_by g.B.CutDisk.restarts g.B.CutDisk.arming g.B.CutDisk.plain g.B.CutDisk.is_starved) in
-    part_restarted g.B.Disk cuts c.args.cut.call whole c.args.disk.now c.arm.new.disk c.touch_disk-came.new.disk
-    c.strike.new.disk c.restart.new.disk c.arm.ensures
-    (c.touch_disk-came.ensures.touches seat whole at_seat is_part).touches.carries c.in_ok-strike.ensures.strikes
-    c.restart.ensures.tries
-
-pub returns-in_err-strike-clause-stops : goal.returns-in_err-strike-clause-stops
-returns-in_err-strike-clause-stops g c = λ seat whole at_seat is_part.
-    let cuts = (cuts_by g.B.CutDisk.restarts g.B.CutDisk.arming g.B.CutDisk.plain g.B.CutDisk.is_starved) in
-    part_failed g.B.Disk cuts c.args.cut.call whole c.args.disk.now c.arm.new.disk c.touch_disk-came.new.disk
-    c.strike.new.disk c.arm.ensures
-    (c.touch_disk-came.ensures.touches seat whole at_seat is_part).touches.carries c.in_err-strike.ensures.fails
-
-pub returns-in_err-memory_found-clause-stops : goal.returns-in_err-memory_found-clause-stops
-returns-in_err-memory_found-clause-stops g c = λ seat whole at_seat is_part.
-    let cuts = (cuts_by g.B.CutDisk.restarts g.B.CutDisk.arming g.B.CutDisk.plain g.B.CutDisk.is_starved) in
-    part_failed g.B.Disk cuts c.args.cut.call whole c.args.disk.now c.arm.new.disk c.touch_disk-came.new.disk
-    c.touch_disk-came.new.disk c.arm.ensures
-    (c.touch_disk-came.ensures.touches seat whole at_seat is_part).touches.carries (inl refl)

@@ -1,7 +1,7 @@
 -- The frame at this place is read, is for this client, and is heard.
-use Rattle.std.proofs.Common.{refl, subst, List, ℕ, true, Ok, Err}
+use Rattle.std.proofs.Common.{refl, sym, subst, List, ℕ, true, Ok, Err}
 use Rattle.ftl0_client.specs.Calls.{Hears}
-use Rattle.air_rehearsal.proofs.Names.{FrameValue, IsAt, Transmission, delivering, EachImage, NotesState, StandsFor, ClientPart, DeliversToClient, IsLane, IsSeat, Seat, Lane, Party}
+use Rattle.air_rehearsal.proofs.Names.{⊤, FrameValue, Halt, TouchesDisk, IsAt, Transmission, delivering, EachImage, NotesState, StandsFor, ClientPart, DeliversToClient, IsLane, IsSeat, Seat, Lane, Party}
 use Rattle.air_rehearsal.proofs.HeardLemmas.{delivered_at, heard_begins, heard_touches, is_for, lane_was, lanes_now}
 use Rattle.air_rehearsal.proofs.party.Party.hear.Goals as goal
 
@@ -50,9 +50,12 @@ returns-in-Err-clause-touches g c = λ seat whole at_seat delivers.
             attempt = record c.args.self.now.attempt { from_server = c.deliver.new.self };
           }) refl lane;
       touches =
-          heard_touches c.args.self.now seat at_seat c.args.place whole delivers g.D.Disk c.hear.new.self
+          subst
+          (λ (h : Halt). TouchesDisk g.D.Disk {T = ⊤} whole c.args.disk.now c.hear.new.disk (Err h))
+          (sym c.stopped_by.ensures)
+          (heard_touches c.args.self.now seat at_seat c.args.place whole delivers g.D.Disk c.hear.new.self
           c.args.disk.now c.hear.new.disk (Err c.in-Err.halt) hears c.in-Err.ensures.puts
-          g.met.D.Disk.lasts_on tt;
+          g.met.D.Disk.lasts_on tt);
     }
 
 pub returns-in-Ok-clause-touches : goal.returns-in-Ok-clause-touches

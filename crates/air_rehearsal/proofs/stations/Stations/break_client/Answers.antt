@@ -1,6 +1,5 @@
 use Rattle.std.proofs.Common.{refl, sym, ap, ◌∙◌, arith, Some, slice_index_or}
 use Rattle.air_rehearsal.proofs.Names.{cuts_by, clients_of}
-use Rattle.air_rehearsal.proofs.HalfwayClients.{broken_leaves}
 use Rattle.air_rehearsal.proofs.PlayApart.{breaks_client}
 use Rattle.air_rehearsal.proofs.PlayParts.{images_there, number_at}
 use Rattle.air_rehearsal.proofs.ReadyLemmas.{read_at, ready_after}
@@ -34,21 +33,3 @@ returns-clause-goes g c =
     refl refl refl refl c.in_ok-break_off.ensures.breaks
     (images_there g.B.Disk c.args.disks.now c.in-Some.c c.break_off.new.disk c.index-disks-c-2.result
     c.notes.result.now c.break_off.new.self.client.notes c.if-c-disks.false c.notes.ensures c.images_law.ensures)
-
-pub returns-in_err-break_off-clause-tries : goal.returns-in_err-break_off-clause-tries
-returns-in_err-break_off-clause-tries g c =
-    broken_leaves g.B.Disk c.args.client c.in-Some.c c.args.disks.now
-    (slice_index_or c.args.disks.now c.in-Some.c c.index-disks-c.result) c.break_off.new.disk
-    (number_at c.args.client c.in-Some.c (sym c.place_of.ensures ∙ c.in-Some.is))
-    (read_at c.args.disks.now c.in-Some.c c.index-disks-c.result c.if-c-disks.false c.index-disks-c.is
-    ∙ ap Some c.index-disks-c.is)
-    c.break_off.ensures.tries
-
-pub returns-clause-tries : goal.returns-clause-tries
-returns-clause-tries g c =
-    broken_leaves g.B.Disk c.args.client c.in-Some.c c.args.disks.now
-    (slice_index_or c.args.disks.now c.in-Some.c c.index-disks-c.result) c.break_off.new.disk
-    (number_at c.args.client c.in-Some.c (sym c.place_of.ensures ∙ c.in-Some.is))
-    (read_at c.args.disks.now c.in-Some.c c.index-disks-c.result c.if-c-disks.false c.index-disks-c.is
-    ∙ ap Some c.index-disks-c.is)
-    c.break_off.ensures.tries

@@ -1,6 +1,5 @@
 -- The recovered store is the world's, and nothing but reads was made behind the recovery.
-use Rattle.air_rehearsal.proofs.Names.{the_server}
-use Rattle.air_rehearsal.proofs.EndLemmas.{ends-so, recovered-known, recovered-store, tries-reads}
+use Rattle.air_rehearsal.proofs.EndLemmas.{ends-so, recovered-known, recovered-store}
 use Rattle.air_rehearsal.proofs.stations.Stations.end.Goals as goal
 
 pub returns-clause-ends : goal.returns-clause-ends
@@ -18,26 +17,17 @@ returns-clause-ends g c world sound plays blocks stands =
     (record {
       told = c.recover.ensures.runs.told;
       since = c.recover.ensures.since_start;
+      quiet = recovered.quiet;
       lasts = c.recover.ensures.runs.lasts;
     })
     c.count_all.ensures.looks same (c.in_ok-count_all.ensures.counts world sound plays known same)
 
-pub returns-in_err-count_all-clause-tries : goal.returns-in_err-count_all-clause-tries
-returns-in_err-count_all-clause-tries g c =
-    tries-reads g.D.Disk g.met.D.Disk.lasts_on the_server c.args.disk.now c.recover.new.disk c.count_all.new.disk
-    (record {
-      told = c.recover.ensures.runs.told;
-      since = c.recover.ensures.since_start;
-      lasts = c.recover.ensures.runs.lasts;
-    })
-    c.count_all.ensures.looks.only c.count_all.ensures.looks.lasts
+pub returns-in_err-count_all-clause-lasts : goal.returns-in_err-count_all-clause-lasts
+returns-in_err-count_all-clause-lasts g c =
+    g.met.D.Disk.lasts_on c.args.disk.now c.recover.new.disk c.count_all.new.disk c.recover.ensures.runs.lasts
+    c.count_all.ensures.looks.lasts
 
-pub returns-clause-tries : goal.returns-clause-tries
-returns-clause-tries g c =
-    tries-reads g.D.Disk g.met.D.Disk.lasts_on the_server c.args.disk.now c.recover.new.disk c.count_all.new.disk
-    (record {
-      told = c.recover.ensures.runs.told;
-      since = c.recover.ensures.since_start;
-      lasts = c.recover.ensures.runs.lasts;
-    })
-    c.count_all.ensures.looks.only c.count_all.ensures.looks.lasts
+pub returns-clause-lasts : goal.returns-clause-lasts
+returns-clause-lasts g c =
+    g.met.D.Disk.lasts_on c.args.disk.now c.recover.new.disk c.count_all.new.disk c.recover.ensures.runs.lasts
+    c.count_all.ensures.looks.lasts

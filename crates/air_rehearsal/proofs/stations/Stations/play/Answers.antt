@@ -1,8 +1,6 @@
 use Rattle.std.proofs.Common.{◌∷◌, sym, subst}
 use Rattle.air_rehearsal.proofs.Names.{cuts_by, event_value, bench_of, AreReady, Stations}
 use Rattle.air_rehearsal.proofs.PlayParts.{if_ok}
-use Rattle.air_rehearsal.proofs.HalfwayPlay.{counted_event}
-use Rattle.air_rehearsal.proofs.HalfwayServer.{on_err}
 use Rattle.air_rehearsal.proofs.PlayServer.{counted_is_bench, counted_moment, plays_event}
 use Rattle.air_rehearsal.proofs.stations.Stations.play.Goals as goal
 
@@ -19,17 +17,3 @@ returns-clause-plays g c =
     world (event_value c.args.event.now) (bench_of c.args.self.now c.args.server c.args.disk.now c.args.disks.now)
     (bench_of c.go.new.self later c.go.new.disk c.go.new.disks) c.count_event.new.self playing c.count_event.ensures
     (λ bench moment. goes world bench can moment allowed))
-
-pub returns-clause-stops : goal.returns-clause-stops
-returns-clause-stops g c =
-    let cuts = (cuts_by g.B.CutDisk.restarts g.B.CutDisk.arming g.B.CutDisk.plain g.B.CutDisk.is_starved) in
-    on_err c.go.result _ _ c.go.ensures.stops
-    (λ stops world playing can allowed.
-    let counts = c.count_event.ensures in
-    counted_event g.B.Disk cuts c.args.self.now c.count_event.new.self world (event_value c.args.event.now)
-    (c.args.disk.now ∷ c.args.disks.now) (c.go.new.disk ∷ c.go.new.disks) counts
-    (stops world
-    (counted_is_bench g.B.Disk cuts world (bench_of c.args.self.now c.args.server c.args.disk.now c.args.disks.now)
-    c.count_event.new.self playing counts) can
-    (counted_moment g.B.Disk cuts world (bench_of c.args.self.now c.args.server c.args.disk.now c.args.disks.now)
-    c.count_event.new.self playing counts) allowed))

@@ -1,9 +1,9 @@
 -- What is sent is replied in the client's attempt.
 use Rattle.std.proofs.Common.{◌≡◌, refl, sym, ap, subst, ◌∙◌}
 use Rattle.air_rehearsal.proofs.Names.{slice_set, same_Some, SendsReplies, Party}
-use Rattle.air_rehearsal.proofs.PairLemmas.{get-none, get-some}
+use Rattle.air_rehearsal.proofs.PairLemmas.{get-some}
 use Rattle.air_rehearsal.proofs.ServingKeeps.{keep-refl, keep-set}
-use Rattle.air_rehearsal.proofs.ServingSent.{on-ok, on-ok-more}
+use Rattle.air_rehearsal.proofs.ServingSent.{on-ok-more}
 use Rattle.air_rehearsal.proofs.stations.Stations.reply.Goals as goal
 
 pub returns-in-Some-clause-keeps : goal.returns-in-Some-clause-keeps
@@ -46,12 +46,3 @@ returns-in-None-clause-keeps g c = record {
   moment = refl;
   report = refl;
 }
-
-pub returns-in-None-clause-replies : goal.returns-in-None-clause-replies
-returns-in-None-clause-replies g c =
-    let all = c.args.self.now.parties.items in
-    on-ok c.all_sent.result
-    (λ store it party is at.
-    let none = get-none all all c.args.c refl c.in-None.ensures.item.3 in
-    let no : ⊥ = let e = sym none ∙ at in cc in
-    absurd no)

@@ -1,6 +1,5 @@
 use Rattle.std.proofs.Common.{refl, ap, ◌∙◌, subst, arith, Bool, Option, Some, slice_index_or}
 use Rattle.air_rehearsal.proofs.Names.{cuts_by, is_under_way, outcome_by, Outcome, TellsThen, asked_more, cut_more, outcome_more, clients_of}
-use Rattle.air_rehearsal.proofs.HalfwayClients.{may_leave}
 use Rattle.air_rehearsal.proofs.PlayParts.{counts_busy, counts_free, images_there, is_free_so, not_free_so, took_part}
 use Rattle.air_rehearsal.proofs.ReadyLemmas.{read_at, ready_after}
 use Rattle.air_rehearsal.proofs.stations.Stations.take_part.Goals as goal
@@ -70,36 +69,3 @@ returns-else-not-was_free-clause-took g c =
     counts_free (is_under_way seat.party.client.attempt) (outcome_by next.attempt) c.count_cut.new.self
     (is_free_so c.is_free-was_free.result c.if-not-was_free.false
     (c.is_free-was_free.ensures.party seat is_seat)))
-
-pub returns-in_err-take_part-clause-stops : goal.returns-in_err-take_part-clause-stops
-returns-in_err-take_part-clause-stops g c =
-    may_leave g.B.Disk (cuts_by g.B.CutDisk.restarts g.B.CutDisk.arming g.B.CutDisk.plain g.B.CutDisk.is_starved)
-    (clients_of c.args.self.now c.args.disks.now) c.args.c c.index_mut-party.result.now
-    (slice_index_or c.args.disks.now c.args.c c.index-disks-c.result) c.take_part.new.disk c.args.part
-    (read_at c.args.self.now.parties.items c.args.c c.index_mut-party.result.now
-    (omega (arith, c.len.ensures, c.if-c-len.false)) c.index_mut-party.ensures.value)
-    (read_at c.args.disks.now c.args.c c.index-disks-c.result c.if-c-disks.false c.index-disks-c.is
-    ∙ ap Some c.index-disks-c.is)
-    c.take_part.ensures.stops
-
-pub returns-then-not-was_free-clause-stops : goal.returns-then-not-was_free-clause-stops
-returns-then-not-was_free-clause-stops g c =
-    may_leave g.B.Disk (cuts_by g.B.CutDisk.restarts g.B.CutDisk.arming g.B.CutDisk.plain g.B.CutDisk.is_starved)
-    (clients_of c.args.self.now c.args.disks.now) c.args.c c.index_mut-party.result.now
-    (slice_index_or c.args.disks.now c.args.c c.index-disks-c.result) c.take_part.new.disk c.args.part
-    (read_at c.args.self.now.parties.items c.args.c c.index_mut-party.result.now
-    (omega (arith, c.len.ensures, c.if-c-len.false)) c.index_mut-party.ensures.value)
-    (read_at c.args.disks.now c.args.c c.index-disks-c.result c.if-c-disks.false c.index-disks-c.is
-    ∙ ap Some c.index-disks-c.is)
-    c.take_part.ensures.stops
-
-pub returns-else-not-was_free-clause-stops : goal.returns-else-not-was_free-clause-stops
-returns-else-not-was_free-clause-stops g c =
-    may_leave g.B.Disk (cuts_by g.B.CutDisk.restarts g.B.CutDisk.arming g.B.CutDisk.plain g.B.CutDisk.is_starved)
-    (clients_of c.args.self.now c.args.disks.now) c.args.c c.index_mut-party.result.now
-    (slice_index_or c.args.disks.now c.args.c c.index-disks-c.result) c.take_part.new.disk c.args.part
-    (read_at c.args.self.now.parties.items c.args.c c.index_mut-party.result.now
-    (omega (arith, c.len.ensures, c.if-c-len.false)) c.index_mut-party.ensures.value)
-    (read_at c.args.disks.now c.args.c c.index-disks-c.result c.if-c-disks.false c.index-disks-c.is
-    ∙ ap Some c.index-disks-c.is)
-    c.take_part.ensures.stops
