@@ -31,8 +31,8 @@ use ax25_frames::read_frame;
 use disk_model::{CutDisk, Disk, DiskFault};
 use file_store::laws::armed_law;
 use ftl0_server::Server;
-use px_base::Call;
 use ftl0_server::step_laws::{front_of_event_law, misses_law, step_law};
+use px_base::Call;
 
 /// What comes to the server.
 #[derive(Clone, Copy, Debug)]

@@ -1,8 +1,8 @@
 //! The cause of an end, told on standard error beside the status.
 
 use crate::help::tell_usage;
-use command_words::{ClientRequest, MakingRequest, RehearseRequest, Request, Words, read};
-use pacsat_cli::{BadStore, RefusedBy, Status};
+use command_words::{ClientRequest, MakingRequest, RehearseRequest, Request};
+use pacsat_cli::{BadStore, ReadWords, RefusedBy, Status};
 use real_outside::SystemError;
 use std::io::{self, ErrorKind};
 use traffic_log::meaning_of_code;
@@ -24,13 +24,13 @@ impl Ended {
     pub(crate) fn tell(
         &self,
         rt: &HostRuntime,
-        words: &Words,
+        words: &ReadWords<'_>,
         disk: &str,
         at: &str,
         air: Option<SystemError>,
     ) {
         match self.status {
-            Status::Usage => tell_usage(rt, words),
+            Status::Usage => tell_usage(rt, words.words()),
             Status::Refused(by) => tell_refused(rt, by),
             Status::AirRead | Status::AirWrite => tell_error(rt, at, air),
             Status::Disk => tell_error(rt, disk, self.disk),
@@ -96,8 +96,13 @@ fn tell_bad_store(rt: &HostRuntime, disk: &str, why: BadStore) {
 
 /// Tells of the files that the words name what the system refused to the shelf: of those of `pfh-make` and `pfh-body`
 /// of the one that is read alone, where `read_alone` holds.
-fn tell_shelf(rt: &HostRuntime, words: &Words, read_alone: bool, error: Option<SystemError>) {
-    let Ok(request) = read(rt.alloc(), words) else {
+fn tell_shelf(
+    rt: &HostRuntime,
+    words: &ReadWords<'_>,
+    read_alone: bool,
+    error: Option<SystemError>,
+) {
+    let Ok(request) = words.asked() else {
         return;
     };
     match request {

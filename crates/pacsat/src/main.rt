@@ -12,6 +12,6 @@ use system::System;
 fn main(rt: HostRuntime) -> ExitCode {
     match system::told(&rt) {
         Some(status) => ExitCode::from(status.number()),
-        None => ExitCode::from(start(&mut System::new(&rt))),
+        None => ExitCode::from(start(rt.alloc(), &mut System::new(&rt))),
     }
 }

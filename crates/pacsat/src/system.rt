@@ -5,8 +5,10 @@ ghost use Rattle.std.specs.declared.io.ErrorKind.TheVariants as reason;
 
 use crate::cause::Ended;
 use crate::help;
-use command_words::{ClientRequest, Request, read};
-use pacsat_cli::{Host, NotHeld, Status, Words, WordsRefusal, end_with, fresh_bench, run};
+use command_words::{ClientRequest, Request};
+use pacsat_cli::{
+    Bench, FuseDisks, Host, NotHeld, ReadWords, Status, Words, WordsRefusal, end_with, run,
+};
 use px_base::{Air, Call, Out};
 use real_outside::{
     FileDisk, FolderShelf, NullFile, StandardStreams, StdAir, StdOut, SystemClock, TcpAir,
@@ -55,7 +57,7 @@ impl<'a> Host for System<'a> {
         let _ = end_with(status, &mut StdOut::new(self.rt.stderr()));
     }
 
-    fn run_over_connection(&mut self, words: &Words, disk: &str, at: &str) -> Status
+    fn run_over_connection(&mut self, words: &ReadWords<'_>, disk: &str, at: &str) -> Status
         ensures kept { self.new.streams ≡ self.old.streams }
     {
         let log = StdOut::new(self.rt.stderr());
@@ -73,7 +75,7 @@ impl<'a> Host for System<'a> {
         ended.status
     }
 
-    fn run_over_streams(&mut self, words: &Words, disk: &str) -> Status
+    fn run_over_streams(&mut self, words: &ReadWords<'_>, disk: &str) -> Status
         ensures kept { self.new.streams ≡ self.old.streams }
     {
         let mut text = StdOut::new(self.rt.stderr());
@@ -87,7 +89,7 @@ impl<'a> Host for System<'a> {
         .status
     }
 
-    fn run_without_air(&mut self, words: &Words, disk: &str) -> Status
+    fn run_without_air(&mut self, words: &ReadWords<'_>, disk: &str) -> Status
         ensures kept { self.new.streams ≡ self.old.streams }
     {
         let mut text = StdOut::new(self.rt.stdout());
@@ -104,10 +106,11 @@ impl<'a> Host for System<'a> {
 }
 
 /// Does what the words ask for, over the file `disk`, this air and this output for text, the working folder, the
-/// system's clock, and disks in memory for a rehearsal. A command that uses no disk doesn't open the file.
+/// system's clock, and a bench of disks in memory for a rehearsal, which makes them when one is played. A command that
+/// uses no disk doesn't open the file.
 fn run_over<A: Air, O: Out>(
     rt: &HostRuntime,
-    words: &Words,
+    words: &ReadWords<'_>,
     disk: &str,
     air: &mut A,
     text: &mut O,
@@ -115,19 +118,17 @@ fn run_over<A: Air, O: Out>(
     let mut file = FileDisk::new(rt, disk);
     let mut shelf = FolderShelf::new(rt);
     let mut clock = SystemClock::new(rt);
-    let status = match fresh_bench(rt.alloc()) {
-        Ok(mut bench) => run(
-            rt.alloc(),
-            words,
-            &mut file,
-            air,
-            &mut shelf,
-            text,
-            &mut clock,
-            &mut bench,
-        ),
-        Err(_refused) => end_with(Status::OutOfMemory, text),
-    };
+    let mut bench = Bench::new(rt.alloc(), FuseDisks);
+    let status = run(
+        rt.alloc(),
+        words,
+        &mut file,
+        air,
+        &mut shelf,
+        text,
+        &mut clock,
+        &mut bench,
+    );
     Ended {
         status,
         disk: file.device().files().last_error(),
@@ -137,7 +138,7 @@ fn run_over<A: Air, O: Out>(
 
 /// What makes lines of what passes over the air, where these words ask for a server or a client, and PACSAT_LOG in the
 /// environment isn't `off`.
-fn watcher<'a>(rt: &HostRuntime, words: &Words, disk: &'a str) -> Option<Watcher<'a>> {
+fn watcher<'a>(rt: &HostRuntime, words: &ReadWords<'_>, disk: &'a str) -> Option<Watcher<'a>> {
     let level = match env::var(rt, "PACSAT_LOG") {
         Ok(word) => Level::of_word(word.as_str()),
         Err(_) => Level::Info,
@@ -145,12 +146,9 @@ fn watcher<'a>(rt: &HostRuntime, words: &Words, disk: &'a str) -> Option<Watcher
     if level == Level::Off {
         return None;
     }
-    let Ok(request) = read(rt.alloc(), words) else {
-        return None;
-    };
-    match request {
-        Request::Serve(serve) => Some(Watcher::of_server(level, serve.me, disk)),
-        Request::Client(client) => Some(Watcher::of_client(level, me_of(&client))),
+    match words.asked() {
+        Ok(Request::Serve(serve)) => Some(Watcher::of_server(level, serve.me, disk)),
+        Ok(Request::Client(client)) => Some(Watcher::of_client(level, me_of(client))),
         _ => None,
     }
 }

@@ -1,7 +1,6 @@
 -- What a session or a service acknowledges stands, by how it was served.
 use Rattle.std.proofs.Common.{⊎_elim, ℕ, List, inl, subst}
-use Rattle.server_node.specs.Acknowledged.{ServerAcknowledgesLaw, SessionAcknowledgesLaw}
-use Rattle.pacsat_cli.proofs.Names.{Lent, Seen, DiskWord, Status, ServiceStands, SessionStands, RunsServe, serve_terms, OverNamed, RunsSession, run_terms}
+use Rattle.pacsat_cli.proofs.Names.{ServerAcknowledgesLaw, SessionAcknowledgesLaw, Lent, Seen, DiskWord, Status, ServiceStands, SessionStands, RunsServe, serve_terms, OverNamed, RunsSession, run_terms}
 
 module _ {D A C : Type 0} (seen : Seen D A C) (words : List (List ℕ)) (old new : Lent D A C) (s : Status) where
   pub session-stands : SessionAcknowledgesLaw seen → RunsSession words seen old new s → SessionStands words seen old new

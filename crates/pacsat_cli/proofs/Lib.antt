@@ -2,6 +2,7 @@ mod Acknowledged
 mod ClientEnds
 mod ClientStops
 mod Ended
+mod Ends
 mod ExactCarried
 mod ExactJob
 mod ExactSend
@@ -22,5 +23,6 @@ mod RunRehearsal
 mod RunServe
 mod RunSession
 mod Starting
+mod Touched
 mod Unasked
 mod Names

@@ -1,17 +1,24 @@
 -- The names of specs, and of the crates below, that proofs use, in one place.
+pub use Rattle.server_node.specs.Acknowledged.{ServerAcknowledgesLaw, SessionAcknowledgesLaw}
 pub use Rattle.air_rehearsal.specs.Rehearsed.{CanTell, IsUnlawful}
 pub use Rattle.air_schedule.specs.Text.{FirstBadLine, OneSchedule, ScheduleText}
-pub use Rattle.command_words.specs.Asked.{AsksClientFor, AsksMakingFor, AsksRehearseFor, AsksText}
+pub use Rattle.command_words.specs.Asked.{AsksClientFor, AsksFor, AsksMakingFor, AsksRehearseFor, AsksText}
 pub use Rattle.command_words.specs.Laws.{AsksServe, AsksSession, Determined, OnlyOne}
 pub use Rattle.command_words.specs.Words.{AsksClient, AsksFetch, AsksList, AsksMake, AsksRehearse, AsksSend, IsFetch, IsList, IsSend, IsServe, IsSession, IsUsage, NamesCommand}
+pub use Rattle.command_words.specs.declared.client.ClientRequest.{ClientRequest}
 pub use Rattle.command_words.specs.declared.command.FileCommand.{FileCommand}
 pub use Rattle.command_words.specs.declared.disk.DiskWord.{DiskWord}
 pub use Rattle.command_words.specs.declared.disk.DiskWord.TheVariants.{Fresh, Named}
+pub use Rattle.command_words.specs.declared.make.MakingRequest.{MakingRequest}
+pub use Rattle.command_words.specs.declared.make.MakingRequest.TheVariants.{Body, Make}
+pub use Rattle.command_words.specs.declared.rehearse.RehearseRequest.{RehearseRequest}
+pub use Rattle.command_words.specs.declared.rehearse.RehearseRequest.TheVariants.{Drawn, Schedule}
+pub use Rattle.command_words.specs.declared.request.Request.{Request}
 pub use Rattle.command_words.specs.declared.request.SessionRequest.{SessionRequest}
 pub use Rattle.command_words.specs.declared.serve.ServeRequest.{ServeRequest}
 pub use Rattle.command_words.specs.declared.terms.ClientTerms.{}
 pub use Rattle.disk_model.specs.Calls.{DiskState, new_state}
-pub use Rattle.disk_model.specs.Cuts.{Cuts, IsFresh, cuts_by}
+pub use Rattle.disk_model.specs.Cuts.{AreFresh, Cuts, IsFresh, cuts_by}
 pub use Rattle.disk_model.specs.declared.disk.Disk.{Ghosts}
 pub use Rattle.file_store.specs.State.{IsKnown, standing_of}
 pub use Rattle.file_store.specs.StoreFault.{StoreFault}
@@ -33,13 +40,14 @@ pub use Rattle.pacsat_cli.specs.Clients.{ClientRan, Closes, FetchRan, IsUnlisted
 pub use Rattle.pacsat_cli.specs.Exactly.{FetchEndsExactly, FetchLed, FileRefusedExactly, IsCause, IsLinkDown, IsNoFault, IsWanted, ListEndsExactly, ListLed, NotesTold, SendEndsExactly, SendRefuses, SendStarts, SendTold, StartsExactly, UploadLed}
 pub use Rattle.pacsat_cli.specs.Files.{FileEnd, FileShown, FileText, IsNoSuchBy, IsShownBy, IsTextOf, IsTextPut, IsTooLongBy, OctetsShown, checks_headers, code_status, end_of, fault_status, is_file_status, most_octets}
 pub use Rattle.pacsat_cli.specs.Making.{FileKept, IsMadeOf, IsOrHindered, IsPossible, MakeEnd, MakeRan, OctetsMade, length_status, make_status}
-pub use Rattle.pacsat_cli.specs.Rehearsing.{ContentEnd, DrawnEnd, IsUnlawfulAt, PlayEnd, PlaysText, RehearsalEnd, Rehearses, ReportShown, RunsExactly, RunsNamed, SeenSetting, Setting, ShowsReport, TextEnd, most_text, report_line, says_report, seen_setting, setting}
+pub use Rattle.pacsat_cli.specs.Rehearsing.{ContentEnd, DrawnEnd, FromFresh, IsUnlawfulAt, PlayEnd, PlaysText, RehearsalEnd, Rehearses, ReportShown, RunsExactly, RunsNamed, SeenSetting, ShowsReport, TextEnd, most_text, report_line, says_report, seen_setting}
 pub use Rattle.pacsat_cli.specs.Run.{HasStatusCause, IsUnless, Shows, Stays}
 pub use Rattle.pacsat_cli.specs.Servers.{IsServedOver, RunsServe, WhereServed, serve_terms}
 pub use Rattle.pacsat_cli.specs.Sessions.{AsksDisk, AsksFresh, AsksMoment, AsksNode, AsksStore, HasDiskCause, HasReadCause, HasStoreCause, HasWriteCause, IsDoneAtEnd, IsDoneBy, IsSpentBy, MayPassOver, OverMemory, OverNamed, RefusesExactly, RunsSession, WhereHeard, disk_fault, is_of_file, may_have_outcome, run_terms}
 pub use Rattle.pacsat_cli.specs.Status.{line_of, number_of, numbered_line}
 pub use Rattle.pacsat_cli.specs.Stops.{status_in_memory, status_of, status_of_end, status_of_load, status_of_refusal, status_of_stop}
-pub use Rattle.pacsat_cli.specs.Tasks.{AsksFile, AsksKept, MakingRan, MayMake, RunsBody, RunsFile, RunsMake, WhereHeld}
+pub use Rattle.pacsat_cli.specs.Tasks.{AsksFile, AsksKept, AsksShown, MakingRan, MayMake, RunsBody, RunsFile, RunsMake, WhereHeld}
+pub use Rattle.pacsat_cli.specs.Touching.{LeavesAlone, LeavesBut, Lendings, Reach, Touches, client_reach, is_clocked, is_named, lendings, nothing, reach_of}
 pub use Rattle.pacsat_cli.specs.declared.status.Status.{Status}
 pub use Rattle.pacsat_cli.specs.declared.status.Status.TheVariants.{BadSchedule, Done, NoSuch, Out, OutOfMemory, Refused, Shelf, TooLong}
 pub use Rattle.px_base.proofs.Told.{Gains-front, Gains-none, Grows-trans}

@@ -1,7 +1,23 @@
 -- Words ask for one thing to do.
 use Rattle.std.proofs.Common.{◌≡◌, ℕ, List, refl, inl, inr}
 use Rattle.command_words.specs.declared.command.FileCommand.TheVariants.{Frames, Show, Check}
-use Rattle.pacsat_cli.proofs.Names.{AsksText, AsksServe, AsksSession, Determined, OnlyOne, AsksClient, AsksMake, AsksRehearse, IsUsage, FileCommand, AsksNode, AsksStore, AsksFile}
+use Rattle.command_words.specs.declared.client.ClientRequest.TheVariants as client
+use Rattle.pacsat_cli.proofs.Names.{ClientRequest, MakingRequest, Make, Body, RehearseRequest, Drawn, Schedule, AsksClientFor, AsksMakingFor, AsksRehearseFor, make_value, AsksText, AsksServe, AsksSession, Determined, OnlyOne, AsksClient, AsksMake, AsksRehearse, IsUsage, FileCommand, AsksNode, AsksStore, AsksFile}
+
+module _ (words : List (List ℕ)) where
+  -- a request is a command
+  pub asks-client : (request : ClientRequest) → AsksClientFor words request → AsksClient words
+  asks-client (client.Send asked) is = inl (asked.terms, asked.name.now, is)
+  asks-client (client.Fetch asked) is = inr (inl (asked.terms, asked.number, asked.name.now, is))
+  asks-client (client.List asked) is = inr (inr (asked.terms, is.0, is.2))
+
+  pub asks-make : (request : MakingRequest) → AsksMakingFor words request → AsksMake words
+  asks-make (Make asked) is = inl (asked.body.now, asked.kept.now, make_value asked.header, is)
+  asks-make (Body asked) is = inr (asked.name.now, asked.kept.now, is)
+
+  pub asks-rehearse : (request : RehearseRequest) → AsksRehearseFor words request → AsksRehearse words
+  asks-rehearse (Schedule name) is = inl (name.now, is)
+  asks-rehearse (Drawn seed count) is = inr (seed, count, is)
 
 module _ (words : List (List ℕ)) (only : OnlyOne words) where
   -- words that ask for the text of a file are in the command set, and ask for no session and no service

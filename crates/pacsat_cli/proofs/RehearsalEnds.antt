@@ -7,7 +7,7 @@ use Rattle.air_rehearsal.specs.declared.report.Report.{Report}
 use Rattle.air_rehearsal.specs.Generator.{DrivenBy}
 use Rattle.pacsat_cli.specs.Rehearsing.{EndsExactly, IsBroken}
 use Rattle.pacsat_cli.specs.declared.status.Status.TheVariants.{Broken}
-use Rattle.pacsat_cli.proofs.Names.{Contains, Option, None, Some, Err, Gains, GainsPrefix, Rose, Holding, Loads, content_of, ShelfRefusal, Gains-front, Gains-none, Cuts, Ghosts, FirstBadLine, OneSchedule, ScheduleText, IsUnlawful, Status, Done, NoSuch, OutOfMemory, Out, Shelf, BadSchedule, TooLong, CanTell, ContentEnd, DrawnEnd, IsUnlawfulAt, PlaysText, RehearsalEnd, ReportShown, ShowsReport, TextEnd, most_text, report_line, says_report, IsUnless, status_of_load}
+use Rattle.pacsat_cli.proofs.Names.{RehearseRequest, Drawn, Schedule as named, Contains, Option, None, Some, Err, Gains, GainsPrefix, Rose, Holding, Loads, content_of, ShelfRefusal, Gains-front, Gains-none, AreFresh, Cuts, Ghosts, FirstBadLine, OneSchedule, ScheduleText, IsUnlawful, Status, Done, NoSuch, OutOfMemory, Out, Shelf, BadSchedule, TooLong, CanTell, ContentEnd, DrawnEnd, FromFresh, IsUnlawfulAt, PlayEnd, PlaysText, RehearsalEnd, ReportShown, ShowsReport, TextEnd, most_text, report_line, says_report, IsUnless, status_of_load}
 use Rattle.pacsat_cli.proofs.Loading.{long, none}
 
 module _ {O : Type 0} (o : OutGhosts O) (before : O) where
@@ -153,26 +153,50 @@ module _ {B : Type 0} (g : Ghosts B) (cuts : Cuts B) where
         absurd (isnt plays.schedule (subst IsText (same_octets h.0 octets h.1 there) plays.text))
     no_schedule s h octets there short isnt = absurd h.2.ends
 
-    is_schedule : (s : Status) → RehearsalEnd g cuts (Some shelf) name old new text s → (octets : List ℕ) (schedule : Schedule) → content_of shelf name ≡ Some octets → length octets ≤ most_text → ScheduleText schedule octets → IsUnlawfulAt g cuts schedule old new s ⊎ (IsBroken s ⊎ Contains (Done ∷ Out ∷ Shelf ∷ OutOfMemory ∷ []) s)
-    is_schedule NoSuch h octets schedule there short is = absurd (let e = sym h.0 ∙ there in cc)
-    is_schedule TooLong h octets schedule there short is =
+    is_schedule : AreFresh g cuts old → (s : Status) → RehearsalEnd g cuts (Some shelf) name old new text s → (octets : List ℕ) (schedule : Schedule) → content_of shelf name ≡ Some octets → length octets ≤ most_text → ScheduleText schedule octets → IsUnlawfulAt g cuts schedule new s ⊎ (IsBroken s ⊎ Contains (Done ∷ Out ∷ Shelf ∷ OutOfMemory ∷ []) s)
+    is_schedule fresh NoSuch h octets schedule there short is = absurd (let e = sym h.0 ∙ there in cc)
+    is_schedule fresh TooLong h octets schedule there short is =
         let same = same_octets h.0.0 octets h.0.1 there in
         absurd (omega (arith, h.0.2, short, ap length same))
-    is_schedule Shelf h octets schedule there short is = inr (inr (2, omega arith, refl))
-    is_schedule OutOfMemory h octets schedule there short is = inr (inr (3, omega arith, refl))
-    is_schedule Done h octets schedule there short is = inr (inr (0, omega arith, refl))
-    is_schedule Out h octets schedule there short is = inr (inr (1, omega arith, refl))
-    is_schedule (BadSchedule line) h octets schedule there short is =
+    is_schedule fresh Shelf h octets schedule there short is = inr (inr (2, omega arith, refl))
+    is_schedule fresh OutOfMemory h octets schedule there short is = inr (inr (3, omega arith, refl))
+    is_schedule fresh Done h octets schedule there short is = inr (inr (0, omega arith, refl))
+    is_schedule fresh Out h octets schedule there short is = inr (inr (1, omega arith, refl))
+    is_schedule fresh (BadSchedule line) h octets schedule there short is =
         let IsText : List ℕ → Type 0 = λ o. ScheduleText schedule o in
         let text_is = subst IsText (sym (same_octets h.0 octets h.1 there)) is in
         elim h.2.ends.0 [
           | inl first ↦ absurd (first.0.none schedule text_is)
           | inr unlawful ↦
               let IsAt : Schedule → Type 0 = λ x. IsUnlawful g cuts x old new line in
-              inl (line, refl, λ can. subst IsAt (one h.0 unlawful.schedule schedule unlawful.text text_is) (unlawful.unlawful can))
+              inl (old, fresh, (line, refl, λ can. subst IsAt (one h.0 unlawful.schedule schedule unlawful.text text_is) (unlawful.unlawful can)))
         ]
-    is_schedule (Broken line what) h octets schedule there short is = inr (inl (line, what, refl))
-    is_schedule s h octets schedule there short is = absurd h.2.ends
+    is_schedule fresh (Broken line what) h octets schedule there short is = inr (inl (line, what, refl))
+    is_schedule fresh s h octets schedule there short is = absurd h.2.ends
 
-    pub exactly : (s : Status) → RehearsalEnd g cuts (Some shelf) name old new text s → EndsExactly g cuts (content_of shelf name) old new s
-    exactly s h = record { no_such = no_such s h; too_long = too_long s h; no_schedule = no_schedule s h; is_schedule = is_schedule s h }
+    exactly-fresh : AreFresh g cuts old → (s : Status) → RehearsalEnd g cuts (Some shelf) name old new text s → EndsExactly g cuts (content_of shelf name) new s
+    exactly-fresh fresh s h = record { no_such = no_such s h; too_long = too_long s h; no_schedule = no_schedule s h; is_schedule = is_schedule fresh s h }
+
+  -- what was played over fresh disks
+  over-fresh : (held : Option Holding) (request : RehearseRequest) (old new : List B) → AreFresh g cuts old → (text : List ℕ) (s : Status) → PlayEnd g cuts held request old new text s → FromFresh g cuts (λ from. PlayEnd g cuts held request from new) text s
+  over-fresh held (named name) old new fresh text OutOfMemory h = h
+  over-fresh held (Drawn seed count) old new fresh text OutOfMemory h = h
+  over-fresh held request old new fresh text s h = (old, fresh, h)
+
+  pub played-fresh : {O : Type 0} (o : OutGhosts O) (before now : O) (held : Option Holding) (request : RehearseRequest) (old new : List B) (s : Status) → AreFresh g cuts old → ReportShown o (PlayEnd g cuts held request old new) before now s → ReportShown o (FromFresh g cuts (λ from. PlayEnd g cuts held request from new)) before now s
+  played-fresh o before now held request old new s fresh shown =
+      ends-so o before (PlayEnd g cuts held request old new) (FromFresh g cuts (λ from. PlayEnd g cuts held request from new)) now s
+      (λ text. over-fresh held request old new fresh text s) shown
+
+  -- out of memory each cause has its exception
+  memory-exactly : (content : Option (List ℕ)) (new : List B) → EndsExactly g cuts content new OutOfMemory
+  memory-exactly content new = record {
+    no_such = λ _. inr (1, omega arith, refl);
+    too_long = λ _ _ _. inr (1, omega arith, refl);
+    no_schedule = λ _ _ _ _. inr (1, omega arith, refl);
+    is_schedule = λ _ _ _ _ _. inr (inr (3, omega arith, refl));
+  }
+
+  pub exactly : OneSchedule → (shelf : Holding) (name : List ℕ) (new : List B) (text : List ℕ) (s : Status) → FromFresh g cuts (λ old. RehearsalEnd g cuts (Some shelf) name old new) text s → EndsExactly g cuts (content_of shelf name) new s
+  exactly one shelf name new text OutOfMemory h = memory-exactly (content_of shelf name) new
+  exactly one shelf name new text s h = exactly-fresh one shelf name h.0 new text h.1 s h.2

@@ -1,21 +1,21 @@
 -- What a run did, where the words ask for a client's command.
-use Rattle.std.proofs.Common.{◌≡◌, ℕ, ◌≤◌, List, [], arith, ap, sym, subst, ◌∙◌, inl, inr, false}
+use Rattle.std.proofs.Common.{◌≡◌, ℕ, ◌≤◌, List, [], arith, refl, ap, sym, subst, ◌∙◌, inl, inr, false}
 use Rattle.std.specs.Prelude.{◌⊎◌}
 use Rattle.px_base.specs.declared.out.Out.{Ghosts as OutGhosts}
 use Rattle.px_base.specs.declared.shelf.Shelf.{Ghosts as ShelfGhosts}
-use Rattle.command_words.specs.declared.client.ClientRequest.{ClientRequest}
 use Rattle.command_words.specs.declared.client.ClientRequest.TheVariants as client
 use Rattle.command_words.specs.declared.terms.ClientTerms.{ClientTerms as AskedTerms}
 use Rattle.pacsat_cli.specs.declared.status.Status.TheVariants as status
-use Rattle.pacsat_cli.proofs.Names.{Rose, Lent, Seen, file_asked, files_asked, AsksClientFor, Determined, OnlyOne, AsksClient, AsksList, IsFetch, IsList, IsSend, Status, ClientRan, FetchRan, IsUnlisted, ListRan, MayRun, RunsFetch, RunsList, RunsSend, SendRan, client_terms, outside, Shows, Stays, HasStoreCause, line_of, AsksKept}
+use Rattle.pacsat_cli.proofs.Names.{ClientRequest, Rose, Lent, Seen, file_asked, files_asked, AsksClientFor, Determined, OnlyOne, AsksClient, IsFetch, IsList, IsSend, OneRunLaw, OneStepLaw, StaysLaw, SeenSetting, Status, ClientRan, FetchRan, IsUnlisted, ListRan, MayRun, RunsFetch, RunsList, RunsSend, SendRan, client_terms, outside, Shows, Stays, HasStoreCause, line_of, lendings}
 use Rattle.pacsat_cli.proofs.ClientEnds.{ClientDid, fetch-did, list-did, send-did, unread-did}
 use Rattle.pacsat_cli.proofs.ClientStops.{is_client_status}
-
--- the words ask a client for this
-pub asks-client : (words : List (List ℕ)) (request : ClientRequest) → AsksClientFor words request → AsksClient words
-asks-client words (client.Send asked) is = inl (asked.terms, asked.name.now, is)
-asks-client words (client.Fetch asked) is = inr (inl (asked.terms, asked.number, asked.name.now, is))
-asks-client words (client.List asked) is = inr (inr (asked.terms, is.0, is.2))
+use Rattle.pacsat_cli.proofs.Ends.{RunEnds, asked-usage, whole}
+use Rattle.pacsat_cli.proofs.ExactCarried.{fetch-exactly, list-exactly}
+use Rattle.pacsat_cli.proofs.ExactSend.{send-exactly, send-refuses, send-starts}
+use Rattle.pacsat_cli.proofs.OneTask.{asks-client, file-client, make-client, node-client, store-client}
+use Rattle.pacsat_cli.proofs.RunRehearsal.{no-rehearsal}
+use Rattle.pacsat_cli.proofs.Touched.{client-touches}
+use Rattle.pacsat_cli.proofs.Unasked.{unasked-file, unasked-make, unasked-serve, unasked-session}
 
 pub may-run : (words : List (List ℕ)) (request : ClientRequest) → AsksClientFor words request → MayRun request
 may-run words (client.Send asked) is = record { ranges = is.text.text.ranges; some = is.text.some; few = is.text.few }
@@ -59,18 +59,6 @@ module _ {A C D S O : Type 0} (see : Seen D A C) (sh : ShelfGhosts S) (o : OutGh
       fetch-did see sh o old new shelf shelf_now out mid words s (client_terms asked.terms) asked.number asked.name.now (asked.terms, asked.number, asked.name.now, is) ran
   client-did (client.List asked) is ran = listed-did asked.terms is.0 is.2 ran.1 (ran.0 is.0 is.1)
 
-  -- what the shelf holds stays, but for a file that is fetched
-  pub client-held : (request : ClientRequest) → AsksClientFor words request → ClientRan see sh o (outside old shelf out) (outside new shelf_now mid) request s → (AsksKept words → ⊥) → Stays sh.held shelf shelf_now
-  client-held (client.Send asked) is ran others = ran.held
-  client-held (client.Fetch asked) is ran others = absurd (others (inr (asked.terms, asked.number, asked.name.now, is)))
-  client-held (client.List asked) is ran others = ap sh.held ran.1
-
-  -- and a list leaves it alone
-  pub client-alone : OnlyOne words → (request : ClientRequest) → AsksClientFor words request → ClientRan see sh o (outside old shelf out) (outside new shelf_now mid) request s → AsksList words → shelf_now ≡ shelf
-  client-alone only (client.Send asked) is ran lists = absurd (only.send_list (asked.terms, asked.name.now, is) lists)
-  client-alone only (client.Fetch asked) is ran lists = absurd (only.fetch_list (asked.terms, asked.number, asked.name.now, is) lists)
-  client-alone only (client.List asked) is ran lists = ran.1
-
   -- the words ask for this alone
   module _ (only : OnlyOne words) (determined : Determined words) (line : Shows o.shown o.faults mid now (line_of s)) (done : line_of s ≡ [] → now ≡ mid) where
     pub client-sends : (request : ClientRequest) → AsksClientFor words request → ClientRan see sh o (outside old shelf out) (outside new shelf_now mid) request s → RunsSend words see sh o (outside old shelf out) (outside new shelf_now now) s
@@ -111,3 +99,53 @@ module _ {A C D S O : Type 0} (see : Seen D A C) (sh : ShelfGhosts S) (o : OutGh
       did.of_shelf.same (λ f. let other = sym done ∙ f in cc),
       ap o.faults (same (ap line_of done)) ∙ did.out_same done,
     )
+
+-- all that a run promises, where it is a client's
+module _ {A C D S O B : Type 0} (see : Seen D A C) (told : SeenSetting B S O) (old new : Lent D A C) (shelf shelf_now : S) (bench : List B) (out mid now : O) (words : List (List ℕ)) (s : Status) (only : OnlyOne words) (determined : Determined words) where
+  pub client-ends :
+      OneRunLaw → OneStepLaw → StaysLaw → Shows told.out.shown told.out.faults mid now (line_of s) → (line_of s ≡ [] → now ≡ mid)
+      → told.out.faults mid ≤ told.out.faults now → (request : ClientRequest) → AsksClientFor words request
+      → ClientRan see told.shelf told.out (outside old shelf out) (outside new shelf_now mid) request s
+      → RunEnds words see told (lendings old shelf bench) (lendings new shelf_now bench) out now s
+  client-ends runs steps stays line silent fewer request asks ran =
+      let sh = told.shelf in
+      let o = told.out in
+      let client : AsksClient words = asks-client words request asks in
+      let did = client-did see sh o old new shelf shelf_now out mid now words s request asks ran in
+      let isnt = client-not see sh o old new shelf shelf_now out mid now words s did in
+      let sends = client-sends see sh o old new shelf shelf_now out mid now words s only determined line silent request asks ran in
+      let fetches = client-fetches see sh o old new shelf shelf_now out mid now words s only determined line silent request asks ran in
+      let lists = client-lists see sh o old new shelf shelf_now out mid now words s only determined line silent request asks ran in
+      whole words see told (lendings old shelf bench) (lendings new shelf_now bench) out now s
+      (client-touches sh.held words bench see sh o old new shelf shelf_now out mid s request asks ran)
+      (asked-usage words see told (lendings old shelf bench) (lendings new shelf_now bench) out now s (isnt status.Usage refl) (λ usage. only.usage_client usage client))
+      (unasked-session words see old new s (λ session. only.session_client session client))
+      (unasked-serve words see old new s (λ serve. only.serve_client serve client))
+      (record {
+        send = sends;
+        fetch = fetches;
+        list = lists;
+        send_refuses = send-refuses see sh o words old new shelf shelf_now s out now sends;
+        send_starts = send-starts see sh o words old new shelf shelf_now s out now sends;
+        send_exactly = send-exactly see sh o words old new shelf shelf_now s out now sends runs steps stays;
+        fetch_exactly = fetch-exactly see runs steps stays old new sh o words shelf shelf_now out now s fetches;
+        list_exactly = list-exactly see runs steps stays old new sh o words shelf shelf_now out now s lists;
+      })
+      (unasked-file words sh o shelf out now s (λ file. file-client words only file client))
+      (unasked-make words sh shelf shelf_now s (λ make. make-client words only make client))
+      (no-rehearsal words told shelf out now bench s (only.client_rehearse client))
+      (record {
+        air_read = did.read;
+        air_write = did.write;
+        disk = did.disk;
+        shelf = did.of_shelf;
+        out = client-rose see sh o old new shelf shelf_now out mid now words s did fewer;
+        bad_store = client-store see sh o old new shelf shelf_now out mid now words s did client only;
+      })
+      (record {
+        memory = λ store _. absurd (store-client words only store client);
+        node_done = λ node. absurd (node-client words only node client);
+        done = client-done see sh o old new shelf shelf_now out mid now words s did silent;
+        unshown = λ _ others. absurd (others (inr (inl client)));
+        shown = λ others. absurd (others (inr (inl client)));
+      })

@@ -6,10 +6,14 @@ use Rattle.px_base.specs.declared.shelf.Shelf.{Ghosts as ShelfGhosts}
 use Rattle.command_words.specs.declared.request.Refusal.{Refusal}
 use Rattle.command_words.specs.declared.request.Refusal.TheVariants as refusal
 use Rattle.pacsat_cli.specs.declared.status.Status.TheVariants as status
-use Rattle.pacsat_cli.proofs.Names.{Option, None, Some, IfSome, Result, Holding, content_of, Ghosts, Lent, Seen, DiskWord, Named, SessionRequest, ServeRequest, Gains-none, AsksText, OnlyOne, AsksClient, AsksMake, AsksRehearse, IsServe, IsSession, IsUsage, NamesCommand, MakeValue, lent, seen, Status, FileCommand, BodyRan, body_status, RunsFetch, RunsList, RunsSend, outside, FileEnd, FileShown, IsNoSuchBy, IsShownBy, IsTooLongBy, IsOrHindered, MakeRan, make_status, IsUnless, Shows, RunsServe, WhereServed, HasDiskCause, HasStoreCause, IsDoneBy, IsSpentBy, RunsSession, WhereHeard, line_of, status_of_refusal, RunsBody, RunsFile, RunsMake, WhereHeld}
+use Rattle.pacsat_cli.proofs.Names.{OneRunLaw, OneStepLaw, StaysLaw, OneSchedule, SeenSetting, Option, None, Some, IfSome, Result, Holding, content_of, Ghosts, Lent, Seen, DiskWord, Named, SessionRequest, ServeRequest, Gains-none, AsksText, OnlyOne, AsksClient, AsksMake, AsksRehearse, IsServe, IsSession, IsUsage, NamesCommand, MakeValue, lent, seen, Status, FileCommand, BodyRan, body_status, RunsFetch, RunsList, RunsSend, outside, FileEnd, FileShown, IsNoSuchBy, IsShownBy, IsTooLongBy, IsOrHindered, MakeRan, make_status, IsUnless, Shows, RunsServe, WhereServed, HasDiskCause, HasStoreCause, IsDoneBy, IsSpentBy, RunsSession, WhereHeard, line_of, status_of_refusal, RunsBody, RunsFile, RunsMake, WhereHeld, lendings}
 use Rattle.pacsat_cli.proofs.NodeEnds.{Goes, is_early_status, node-complete, node-spent}
 use Rattle.pacsat_cli.proofs.OneTask.{usage-file, usage-make}
 use Rattle.pacsat_cli.proofs.RunSession.{some_polls}
+use Rattle.pacsat_cli.proofs.Ends.{RunEnds, whole}
+use Rattle.pacsat_cli.proofs.ExactCarried.{fetch-exactly, list-exactly}
+use Rattle.pacsat_cli.proofs.ExactSend.{send-exactly, send-refuses, send-starts}
+use Rattle.pacsat_cli.proofs.RunRehearsal.{refused-rehearsal}
 
 -- why words were refused
 abbrev pub MeansOf : List (List ℕ) → Refusal → Type 0
@@ -176,3 +180,69 @@ module _ (words : List (List ℕ)) (only : OnlyOne words) where
     refused-body holds shelf = λ name kept is.
         let at_status : Status → Type 0 = λ s. BodyRan name kept (holds shelf) (holds shelf) s in
         subst at_status (sym (make-memory why h (inr (name, kept, is)))) (record { ends = refl; told = memory_body name (holds shelf) })
+
+    -- all that a run promises, where the words were refused
+    module _ {A C D S O B : Type 0} (see : Seen D A C) (told : SeenSetting B S O) (all : Lent D A C) (shelf : S) (bench : List B) (out now : O) where
+      pub refused-ends :
+          OneRunLaw → OneStepLaw → StaysLaw → OneSchedule
+          → Shows told.out.shown told.out.faults out now (line_of (status_of_refusal why)) → (line_of (status_of_refusal why) ≡ [] → now ≡ out)
+          → RunEnds words see told (lendings all shelf bench) (lendings all shelf bench) out now (status_of_refusal why)
+      refused-ends runs steps stays one line silent =
+          let s = status_of_refusal why in
+          let sh = told.shelf in
+          let o = told.out in
+          let send = refused-send see sh o all shelf out now line silent in
+          let fetch = refused-fetch see sh o all shelf out now line silent in
+          let list = refused-list see sh o all shelf out now line silent in
+          whole words see told (lendings all shelf bench) (lendings all shelf bench) out now s
+          (inl refl)
+          (record {
+            usage = refused-usage why h;
+            usage_told = refused-usage_told why h;
+            unread = λ _. refused-unread why h;
+          })
+          (record {
+            session = refused-session see.air all.air see.disk see.given all.disk all.clock;
+            session_acknowledged = λ _ _ _. inl refl;
+            complete = refused-complete see.air all.air;
+            spent = refused-spent see.air all.air;
+          })
+          (record {
+            serve = refused-serve see.air all.air see.disk see.given all.disk all.clock;
+            serve_acknowledged = λ _ _. inl refl;
+            serve_complete = refused-serve_complete see.air all.air;
+            serve_spent = refused-serve_spent see.air all.air;
+          })
+          (record {
+            send = send;
+            fetch = fetch;
+            list = list;
+            send_refuses = send-refuses see sh o words all all shelf shelf s out now send;
+            send_starts = send-starts see sh o words all all shelf shelf s out now send;
+            send_exactly = send-exactly see sh o words all all shelf shelf s out now send runs steps stays;
+            fetch_exactly = fetch-exactly see runs steps stays all all sh o words shelf shelf out now s fetch;
+            list_exactly = list-exactly see runs steps stays all all sh o words shelf shelf out now s list;
+          })
+          (record {
+            files = refused-files sh.held o.shown o.faults shelf out now line silent;
+            no_such = refused-no_such (sh.held shelf);
+            too_long = refused-too_long (sh.held shelf);
+            files_done = refused-shown (sh.held shelf);
+          })
+          (record { made = refused-made sh.held shelf; body = refused-body sh.held shelf })
+          (refused-rehearsal words told shelf out now bench s one (rehearse-memory why h) line silent)
+          (record {
+            air_read = record { rose = λ e. absurd (refused-not why status.AirRead refl e); same = λ _ _. refl };
+            air_write = record { rose = λ e. absurd (refused-not why status.AirWrite refl e); same = λ _ _ _ _. refl };
+            disk = refused-disk see.disk.read_faults see.disk.write_faults all.disk all.air;
+            shelf = record { rose = λ e. absurd (refused-not why status.Shelf refl e); same = λ _. refl };
+            out = λ e. absurd (refused-not why status.Out refl e);
+            bad_store = refused-bad_store (see.disk.content all.disk);
+          })
+          (record {
+            memory = λ _ _. (refl, refl);
+            node_done = λ _ e. absurd (refused-not why status.Done refl e);
+            done = λ e. absurd (refused-not why status.Done refl e);
+            unshown = λ e. absurd (refused-not why status.Done refl e);
+            shown = λ _. line;
+          })

@@ -1,10 +1,16 @@
 -- What a run did, where the words ask for a service.
-use Rattle.std.proofs.Common.{◌≡◌, ℕ, List, ap, sym, subst, ◌∙◌, inl, inr, false}
+use Rattle.std.proofs.Common.{◌≡◌, ℕ, List, [], refl, ap, sym, subst, ◌∙◌, inl, inr, false}
 use Rattle.px_base.specs.declared.air.Air.{Ghosts as AirGhosts}
 use Rattle.pacsat_cli.specs.declared.status.Status.TheVariants as status
-use Rattle.pacsat_cli.proofs.Names.{Option, IfSome, Ghosts, standing_of, lent, seen, Fresh, Named, ServeRequest, Determined, OnlyOne, IsServe, Status, IsServedOver, RunsServe, WhereServed, serve_terms, AsksFresh, AsksStore, HasDiskCause, HasReadCause, HasStoreCause, HasWriteCause, IsDoneAtEnd, IsDoneBy, IsSpentBy, RefusesExactly}
+use Rattle.pacsat_cli.proofs.Names.{Option, IfSome, Ghosts, standing_of, lent, seen, Fresh, Named, ServeRequest, Determined, OnlyOne, AsksServe, IsServe, outside, SeenSetting, Shows, line_of, Status, IsServedOver, RunsServe, WhereServed, serve_terms, AsksFresh, AsksStore, HasDiskCause, HasReadCause, HasStoreCause, HasWriteCause, IsDoneAtEnd, IsDoneBy, IsSpentBy, RefusesExactly, ServerAcknowledgesLaw, lendings}
 use Rattle.pacsat_cli.proofs.Ended.{heard-not_memory, mended-disk}
 use Rattle.pacsat_cli.proofs.NodeEnds.{Goes, OnDisk, is_node_status, node-complete, node-done, node-not, node-read, node-spent, node-write, on_disk-cause, on_disk-exact, on_disk-goes}
+use Rattle.pacsat_cli.proofs.Acknowledged.{service-stands}
+use Rattle.pacsat_cli.proofs.Ends.{RunEnds, asked-usage, whole}
+use Rattle.pacsat_cli.proofs.OneTask.{serve-file, serve-make}
+use Rattle.pacsat_cli.proofs.RunRehearsal.{no-rehearsal}
+use Rattle.pacsat_cli.proofs.Touched.{serve-touches}
+use Rattle.pacsat_cli.proofs.Unasked.{unasked-client, unasked-file, unasked-make, unasked-session}
 
 module _ {A C D : Type 0} (g : Ghosts D) (air : AirGhosts A) (given : C → Option (List ℕ)) (disk disk_now : D) (before now : A) (clock clock_n : C) (asked : ServeRequest) (s : Status) where
   serve-on_disk : IsServedOver (seen g air given) (lent disk before clock) (lent disk_now now clock_n) (serve_terms asked) s → OnDisk g air asked.blocks asked.polls disk disk_now before now s
@@ -95,3 +101,44 @@ module _ {A C D : Type 0} (g : Ghosts D) (air : AirGhosts A) (given : C → Opti
 
       pub serve-done : s ≡ status.Done → IsDoneAtEnd air g.read_faults g.write_faults before now disk disk_now
       serve-done = node-done air before now s asked.polls Named words g.read_faults g.write_faults disk disk_now never-fresh store (only.serve_client (asked, asks)) goes serve-disk
+
+      -- all that a run promises, where it serves
+      module _ {S O B : Type 0} (told : SeenSetting B S O) (shelf : S) (bench : List B) (out out_now : O) where
+        pub serve-ends :
+            ServerAcknowledgesLaw (seen g air given)
+            → Shows told.out.shown told.out.faults out out_now (line_of s) → (line_of s ≡ [] → out_now ≡ out)
+            → RunEnds words (seen g air given) told (lendings (lent disk before clock) shelf bench) (lendings (lent disk_now now clock_n) shelf bench) out out_now s
+        serve-ends law line silent =
+            let see = seen g air given in
+            let old = lent disk before clock in
+            let new = lent disk_now now clock_n in
+            let serve : AsksServe words = (asked, asks) in
+            whole words see told (lendings old shelf bench) (lendings new shelf bench) out out_now s
+            (serve-touches told.shelf.held words bench old new shelf asked asks)
+            (asked-usage words see told (lendings old shelf bench) (lendings new shelf bench) out out_now s (serve-not status.Usage refl) (λ usage. only.usage_serve usage serve))
+            (unasked-session words see old new s (λ session. only.session_serve session serve))
+            (record {
+              serve = serve-runs;
+              serve_acknowledged = service-stands see words old new s law serve-runs;
+              serve_complete = serve-complete;
+              serve_spent = serve-spent;
+            })
+            (unasked-client words see told.shelf told.out (outside old shelf out) (outside new shelf out_now) s (only.serve_client serve))
+            (unasked-file words told.shelf told.out shelf out out_now s (serve-file words only serve))
+            (unasked-make words told.shelf shelf shelf s (serve-make words only serve))
+            (no-rehearsal words told shelf out out_now bench s (only.serve_rehearse serve))
+            (record {
+              air_read = serve-read;
+              air_write = serve-write;
+              disk = serve-disk;
+              shelf = record { rose = λ e. absurd (serve-not status.Shelf refl e); same = λ _. refl };
+              out = λ e. absurd (serve-not status.Out refl e);
+              bad_store = serve-bad_store;
+            })
+            (record {
+              memory = λ _. serve-memory;
+              node_done = λ _. serve-done;
+              done = λ e. (refl, ap told.out.faults (silent (ap line_of e)));
+              unshown = λ e _. silent (ap line_of e);
+              shown = λ _. line;
+            })

@@ -1,11 +1,17 @@
 -- What a run did, where the words ask for a session.
-use Rattle.std.proofs.Common.{◌≡◌, ℕ, ◌≤◌, List, refl, ap, sym, subst, ◌∙◌, inl, inr, false, arith}
+use Rattle.std.proofs.Common.{◌≡◌, ℕ, ◌≤◌, List, [], refl, ap, sym, subst, ◌∙◌, inl, inr, false, arith}
 use Rattle.px_base.specs.declared.air.Air.{Ghosts as AirGhosts}
 use Rattle.command_words.specs.Numbers.{IsNumberOr}
 use Rattle.pacsat_cli.specs.declared.status.Status.TheVariants as status
-use Rattle.pacsat_cli.proofs.Names.{Option, Some, None, IsSome, IfSome, Ghosts, standing_of, lent, seen, DiskWord, Fresh, Named, SessionRequest, Determined, OnlyOne, IsSession, Status, AsksDisk, AsksMoment, AsksStore, HasDiskCause, HasReadCause, HasStoreCause, HasWriteCause, IsDoneAtEnd, IsDoneBy, IsSpentBy, OverNamed, RefusesExactly, RunsSession, WhereHeard, run_terms}
+use Rattle.pacsat_cli.proofs.Names.{Option, Some, None, IsSome, IfSome, Ghosts, standing_of, lent, seen, DiskWord, Fresh, Named, SessionRequest, Determined, OnlyOne, AsksSession, IsSession, outside, SeenSetting, Shows, line_of, Status, AsksStore, HasDiskCause, HasReadCause, HasStoreCause, HasWriteCause, IsDoneAtEnd, IsDoneBy, IsSpentBy, OverNamed, RefusesExactly, RunsSession, WhereHeard, run_terms, SessionAcknowledgesLaw, lendings}
 use Rattle.pacsat_cli.proofs.Ended.{heard-not_memory, mended-disk, mended-memory}
 use Rattle.pacsat_cli.proofs.NodeEnds.{Goes, OnDisk, is_early_status, is_node_status, node-complete, node-done, node-not, node-read, node-spent, node-write, on_disk-cause, on_disk-exact, on_disk-goes}
+use Rattle.pacsat_cli.proofs.Acknowledged.{session-stands}
+use Rattle.pacsat_cli.proofs.Ends.{RunEnds, asked-usage, whole}
+use Rattle.pacsat_cli.proofs.OneTask.{session-file, session-make}
+use Rattle.pacsat_cli.proofs.RunRehearsal.{no-rehearsal}
+use Rattle.pacsat_cli.proofs.Touched.{session-touches}
+use Rattle.pacsat_cli.proofs.Unasked.{unasked-client, unasked-file, unasked-make, unasked-serve}
 
 module _ (words : List (List ℕ)) (asked : SessionRequest) (asks : IsSession words asked) where
   -- a number of the words is in its range
@@ -21,13 +27,6 @@ module _ (words : List (List ℕ)) (asked : SessionRequest) (asks : IsSession wo
 
   pub some_polls : 1 ≤ asked.polls
   some_polls = (in_range _ _ _ _ asked.polls (omega arith) (omega arith) asks.text.given.polls_given).0
-
-  -- a moment is given where the words give one
-  pub asked_moment : Determined words → AsksMoment words → IsSome asked.moment
-  asked_moment determined given =
-      let same = determined.session asked given.0 asks given.1 in
-      let P : Option ℕ → Type 0 = λ m. IsSome m in
-      subst P (sym (ap (λ (r : SessionRequest). r.moment) same ∙ given.2.1)) refl
 
 module _ {A C D : Type 0} (g : Ghosts D) (air : AirGhosts A) (given : C → Option (List ℕ)) (disk disk_now : D) (before now : A) (clock clock_n : C) (asked : SessionRequest) (s : Status) where
   -- over the disk that DISK names it is as a service is
@@ -109,10 +108,6 @@ module _ {A C D : Type 0} (g : Ghosts D) (air : AirGhosts A) (given : C → Opti
       exact_notes = λ client _ _ _. absurd (only.session_client (asked, asks) client);
     }
 
-    alone : (word : DiskWord) → asked.disk ≡ word → OverNamed word (seen g air given) (lent disk before clock) (lent disk_now now clock_n) (run_terms asked) s → (AsksDisk words → ⊥) → disk_now ≡ disk
-    alone Named is over none = absurd (none (inl (inl (asked, asks, is))))
-    alone Fresh is over none = over.0
-
     -- over the disk that DISK names memory was wanted before anything was heard
     memory-by : (word : DiskWord) → asked.disk ≡ word → OverNamed word (seen g air given) (lent disk before clock) (lent disk_now now clock_n) (run_terms asked) s → AsksStore words → s ≡ status.OutOfMemory → (now ≡ before) × (clock_n ≡ clock)
     memory-by Named is over store memory =
@@ -140,9 +135,6 @@ module _ {A C D : Type 0} (g : Ghosts D) (air : AirGhosts A) (given : C → Opti
       pub session-memory : AsksStore words → s ≡ status.OutOfMemory → (now ≡ before) × (clock_n ≡ clock)
       session-memory = memory-by asked.disk refl over
 
-      pub session-alone : (AsksDisk words → ⊥) → disk_now ≡ disk
-      session-alone = alone asked.disk refl over
-
       pub session-complete : WhereHeard words air.heard before now (IsDoneBy s)
       session-complete = λ told. node-complete air before now s asked.polls asked.disk goes told.earlier told.turns told.told_before told.told_now
 
@@ -165,3 +157,44 @@ module _ {A C D : Type 0} (g : Ghosts D) (air : AirGhosts A) (given : C → Opti
 
       pub session-done : s ≡ status.Done → IsDoneAtEnd air g.read_faults g.write_faults before now disk disk_now
       session-done = node-done air before now s asked.polls asked.disk words g.read_faults g.write_faults disk disk_now (λ is. (asked, asks, is)) (λ is. inl (asked, asks, is)) (only.session_client (asked, asks)) goes session-disk
+
+      -- all that a run promises, where it serves a session
+      module _ {S O B : Type 0} (told : SeenSetting B S O) (shelf : S) (bench : List B) (out out_now : O) where
+        pub session-ends :
+            SessionAcknowledgesLaw (seen g air given) → (IsSome asked.moment → clock_n ≡ clock)
+            → Shows told.out.shown told.out.faults out out_now (line_of s) → (line_of s ≡ [] → out_now ≡ out)
+            → RunEnds words (seen g air given) told (lendings (lent disk before clock) shelf bench) (lendings (lent disk_now now clock_n) shelf bench) out out_now s
+        session-ends law unasked line silent =
+            let see = seen g air given in
+            let old = lent disk before clock in
+            let new = lent disk_now now clock_n in
+            let session : AsksSession words = (asked, asks) in
+            whole words see told (lendings old shelf bench) (lendings new shelf bench) out out_now s
+            (session-touches told.shelf.held words bench g air given disk disk_now before now clock clock_n shelf asked s asks over unasked)
+            (asked-usage words see told (lendings old shelf bench) (lendings new shelf bench) out out_now s (session-not status.Usage refl) (λ usage. only.usage_session usage session))
+            (record {
+              session = session-runs;
+              session_acknowledged = session-stands see words old new s law session-runs;
+              complete = session-complete;
+              spent = session-spent;
+            })
+            (unasked-serve words see old new s (only.session_serve session))
+            (unasked-client words see told.shelf told.out (outside old shelf out) (outside new shelf out_now) s (only.session_client session))
+            (unasked-file words told.shelf told.out shelf out out_now s (session-file words only session))
+            (unasked-make words told.shelf shelf shelf s (session-make words only session))
+            (no-rehearsal words told shelf out out_now bench s (only.session_rehearse session))
+            (record {
+              air_read = session-read;
+              air_write = session-write;
+              disk = session-disk;
+              shelf = record { rose = λ e. absurd (session-not status.Shelf refl e); same = λ _. refl };
+              out = λ e. absurd (session-not status.Out refl e);
+              bad_store = session-bad_store;
+            })
+            (record {
+              memory = session-memory;
+              node_done = λ _. session-done;
+              done = λ e. (refl, ap told.out.faults (silent (ap line_of e)));
+              unshown = λ e _. silent (ap line_of e);
+              shown = λ _. line;
+            })

@@ -4,6 +4,7 @@ pub mod Clients
 pub mod Exactly
 pub mod Files
 pub mod Making
+pub mod Reading
 pub mod Rehearsing
 pub mod Run
 pub mod Servers
@@ -12,3 +13,4 @@ pub mod Start
 pub mod Status
 pub mod Stops
 pub mod Tasks
+pub mod Touching

@@ -6,7 +6,7 @@ use Rattle.px_base.specs.Outside.{Gains}
 use Rattle.px_base.specs.Shelves.{Holding, content_of}
 use Rattle.px_base.specs.declared.out.Out.{Ghosts as OutGhosts}
 use Rattle.px_base.specs.declared.shelf.Shelf.{Ghosts as ShelfGhosts}
-use Rattle.disk_model.specs.Cuts.{Cuts}
+use Rattle.disk_model.specs.Cuts.{AreFresh, Cuts}
 use Rattle.disk_model.specs.declared.disk.Disk.{Ghosts}
 use Rattle.air_schedule.specs.Schedule.{Schedule}
 use Rattle.air_schedule.specs.Text.{FirstBadLine, ScheduleText}
@@ -15,7 +15,7 @@ use Rattle.air_rehearsal.specs.Generator.{DrivenBy}
 use Rattle.air_rehearsal.specs.Rehearsed.{CanTell, IsUnlawful, Rehearsed}
 use Rattle.air_rehearsal.specs.declared.report.Report.{Report}
 use Rattle.air_rehearsal.specs.declared.stopped.Breach.{Breach}
-use Rattle.command_words.specs.Words.{AsksRehearse, IsDrawn, IsRehearsal}
+use Rattle.command_words.specs.Words.{IsDrawn, IsRehearsal}
 use Rattle.command_words.specs.declared.rehearse.RehearseRequest.{RehearseRequest}
 use Rattle.command_words.specs.declared.rehearse.RehearseRequest.TheVariants as rehearse
 use Rattle.pacsat_cli.specs.declared.status.Status.{Status}
@@ -32,16 +32,7 @@ most_text = 1048576
 abbrev pub report_line : Report → List ℕ
 report_line report = report_text report ++ codes "\n"
 
--- What a rehearsal is lent at one moment: the bench of its disks, the shelf that has the schedule, and the output.
-pub record Setting (B S O : Type 0) : Type 0 where
-  pub bench : List B
-  pub shelf : S
-  pub out : O
-
-abbrev pub setting : {B S O : Type 0} → List B → S → O → Setting B S O
-setting bench shelf out = record { bench = bench; shelf = shelf; out = out }
-
--- What is told of these: by the disks, by the shelf and by the output.
+-- What is told of what a rehearsal is over: by its disks, by the shelf that has the schedule, and by the output.
 pub record SeenSetting (B S O : Type 0) : Type 1 where
   pub disk : Ghosts B
   pub cuts : Cuts B
@@ -127,15 +118,22 @@ module _ {B : Type 0} (g : Ghosts B) (cuts : Cuts B) where
   PlayEnd held (rehearse.Schedule name) old new shown status = RehearsalEnd held name.now old new shown status
   PlayEnd held (rehearse.Drawn seed count) old new shown status = DrawnEnd seed count old new shown status
 
+  -- It began over nine disks without an octet, and ended so. Out of memory, which may come before there are such disks,
+  -- nothing was shown.
+  abbrev pub FromFresh : (List B → List ℕ → Status → Type 0) → List ℕ → Status → Type 0
+  FromFresh Ends shown OutOfMemory = shown ≡ []
+  FromFresh Ends shown status = (old : List B) × AreFresh g cuts old × Ends old shown status
+
   -- an event of the schedule may not come where it stands, and the status says its line
-  abbrev pub IsUnlawfulAt : Schedule → List B → List B → Status → Type 0
-  IsUnlawfulAt schedule old new status =
-      (line : ℕ) × (status ≡ BadSchedule line) × (CanTell g new → IsUnlawful g cuts schedule old new line)
+  abbrev pub IsUnlawfulAt : Schedule → List B → Status → Type 0
+  IsUnlawfulAt schedule new status =
+      (old : List B) × AreFresh g cuts old
+      × ((line : ℕ) × (status ≡ BadSchedule line) × (CanTell g new → IsUnlawful g cuts schedule old new line))
 
   -- How a rehearsal ends, by the content of the name. But for a fault of the shelf and want of memory: where there is
   -- none, or it is too long, that is the status; where it is no schedule's text the status says the first line that
   -- shows this; where it is a schedule's, it was played, or an event of it may not come, or it broke.
-  pub record EndsExactly (content : Option (List ℕ)) (old new : List B) (status : Status) : Type 0 where
+  pub record EndsExactly (content : Option (List ℕ)) (new : List B) (status : Status) : Type 0 where
     pub no_such : content ≡ None → IsUnless status NoSuch (Shelf ∷ OutOfMemory ∷ [])
     pub too_long :
         (octets : List ℕ) → content ≡ Some octets → most_text < length octets
@@ -148,7 +146,7 @@ module _ {B : Type 0} (g : Ghosts B) (cuts : Cuts B) where
     pub is_schedule :
         (octets : List ℕ) (schedule : Schedule) → content ≡ Some octets → length octets ≤ most_text
         → ScheduleText schedule octets
-        → IsUnlawfulAt schedule old new status
+        → IsUnlawfulAt schedule new status
         ⊎ (IsBroken status ⊎ Contains (Done ∷ Out ∷ Shelf ∷ OutOfMemory ∷ []) status)
 
 -- whether the line of a report was put
@@ -176,30 +174,32 @@ pub record ReportRan {O : Type 0} (o : OutGhosts O) (Ends : List ℕ → Status 
   pub line : Shows o.shown o.faults mid now (line_of status)
   pub done : line_of status ≡ [] → now ≡ mid
 
-module _ {B S O : Type 0} (words : List (List ℕ)) (seen : SeenSetting B S O) (old new : Setting B S O)
-    (status : Status) where
+-- What the words are, what is told, the shelf, the output before and now, the disks of the bench now, and the status.
+module _ {B S O : Type 0} (words : List (List ℕ)) (seen : SeenSetting B S O) (shelf : S) (before now : O)
+    (disks : List B) (status : Status) where
   -- where the words ask for the rehearsal of a schedule that the shelf has, it is played so
   abbrev pub RunsNamed : Type 0
   RunsNamed =
       (name : List ℕ) → IsRehearsal words name
       → ReportRan seen.out
-      (RehearsalEnd seen.disk seen.cuts (seen.shelf.held old.shelf) name old.bench new.bench) old.out new.out status
+      (FromFresh seen.disk seen.cuts (λ old. RehearsalEnd seen.disk seen.cuts (seen.shelf.held shelf) name old disks))
+      before now status
 
   -- where they ask for one that is drawn, that one is
   abbrev pub RunsDrawn : Type 0
   RunsDrawn =
       (seed count : ℕ) → IsDrawn words seed count
-      → ReportRan seen.out (DrawnEnd seen.disk seen.cuts seed count old.bench new.bench) old.out new.out status
+      → ReportRan seen.out
+      (FromFresh seen.disk seen.cuts (λ old. DrawnEnd seen.disk seen.cuts seed count old disks)) before now status
 
   -- where it is told what the shelf holds, the status is by the content
   abbrev pub RunsExactly : Type 0
   RunsExactly =
-      (name : List ℕ) (shelf : Holding) → IsRehearsal words name → seen.shelf.held old.shelf ≡ Some shelf
-      → EndsExactly seen.disk seen.cuts (content_of shelf name) old.bench new.bench status
+      (name : List ℕ) (there : Holding) → IsRehearsal words name → seen.shelf.held shelf ≡ Some there
+      → EndsExactly seen.disk seen.cuts (content_of there name) disks status
 
-  -- What a run does as a rehearsal, by its words. Words that ask for none leave the bench as it was.
+  -- What a run does as a rehearsal, by its words: over disks that began without an octet, and that the bench has now.
   pub record Rehearses : Type 0 where
     pub named : RunsNamed
     pub drawn : RunsDrawn
     pub exactly : RunsExactly
-    pub alone : (AsksRehearse words → ⊥) → new.bench ≡ old.bench

@@ -2,11 +2,12 @@
 
 ghost use Rattle.std.specs.Prelude.{◌≡◌, ◌≤◌, length};
 ghost use Rattle.disk_model.specs.Cuts.{AreFresh, cuts_by};
-ghost use Rattle.pacsat_cli.specs.Rehearsing.{ContentEnd, DrawnEnd, PlayEnd, RehearsalEnd, ReportShown, ShowsReport};
-ghost use Rattle.pacsat_cli.specs.Rehearsing.{most_text};
+ghost use Rattle.pacsat_cli.specs.Rehearsing.{ContentEnd, DrawnEnd, FromFresh, PlayEnd, RehearsalEnd, ReportShown};
+ghost use Rattle.pacsat_cli.specs.Rehearsing.{ShowsReport, most_text};
 ghost use Rattle.pacsat_cli.specs.Run.{HasStatusCause, Stays};
 
 use crate::Status;
+use crate::bench::{Bench, DiskMaker};
 use crate::status::status_of_load;
 use air_rehearsal::{RehearseStop, Report, drive, rehearse};
 use air_schedule::{Schedule, ScheduleFault};
@@ -18,8 +19,29 @@ use std::alloc::Global;
 /// The most octets of a schedule's text on the shelf.
 const MOST_TEXT: usize = 1_048_576;
 
-/// Plays the rehearsal that is asked for over these disks, and shows the line of its report. Takes memory.
-pub(crate) fn run_rehearsal<B: CutDisk, S: Shelf, O: Out>(
+/// Makes the disks of the bench, plays the rehearsal that is asked for over them, and shows the line of its report.
+/// Where there is no memory for the disks, nothing else is touched. Takes memory.
+pub(crate) fn run_rehearsal<B: CutDisk + Drop, M: DiskMaker<B> + Drop, S: Shelf, O: Out>(
+    alloc: Global,
+    request: &RehearseRequest<'_>,
+    bench: &mut Bench<B, M>,
+    shelf: &mut S,
+    out: &mut O,
+) -> Status
+    ensures shown { ReportShown O.Out (FromFresh B.Disk (cuts_by B.restarts B.arming B.plain B.is_starved)
+        (λ old. PlayEnd B.Disk (cuts_by B.restarts B.arming B.plain B.is_starved) (S.held shelf.old) request.now old
+        bench.new.disks.items)) out.old out.new result }
+    ensures shelf { Stays S.held shelf.old shelf.new
+        × HasStatusCause Status.Shelf (S.faults shelf.old) (S.faults shelf.new) result }
+{
+    match bench.renew(alloc) {
+        Ok(()) => play(alloc, request, &mut bench.disks, shelf, out),
+        Err(_refused) => Status::OutOfMemory,
+    }
+}
+
+/// Plays it over these disks.
+fn play<B: CutDisk, S: Shelf, O: Out>(
     alloc: Global,
     request: &RehearseRequest<'_>,
     bench: &mut Vec<B>,

@@ -8,22 +8,23 @@ ghost use Rattle.pacsat_cli.specs.Status.{number_of};
 
 mod host;
 
-use crate::Status;
-use command_words::{AirWord, Words, read_air};
+use crate::{ReadWords, Status};
+use command_words::{AirWord, read_air};
 pub use host::{Host, HostCall, NotHeld, WordsRefusal};
+use std::alloc::Global;
 
 /// Runs the program on this system, and gives the number that the process is to end with. Before anything else is opened
 /// standard input, output and error are seen to be open; where they can't be, the run ends with `Status::Disk`. Text goes
 /// to standard error exactly where the second word is `-`, and else to standard output; the first word is the path of the
-/// disk.
-pub fn start<H: Host>(host: &mut H) -> u8
+/// disk. The words are read once, here. Takes memory.
+pub fn start<H: Host>(alloc: Global, host: &mut H) -> u8
     ensures { Asks (H.calls host.old) (H.calls host.new) (Starts result) }
 {
     if host.hold_streams().is_err() {
         return end_with(host, Status::Disk);
     }
     match host.words() {
-        Ok(words) => run_by(host, &words).number(),
+        Ok(words) => run_by(host, &ReadWords::of(alloc, &words)).number(),
         Err(refusal) => end_with(host, status_of_words(refusal)),
     }
 }
@@ -38,7 +39,7 @@ fn end_with<H: Host>(host: &mut H, status: Status) -> u8
 }
 
 /// Does what the words ask for, over the disk of the first word and the air of the second.
-fn run_by<H: Host>(host: &mut H, words: &Words) -> Status
+fn run_by<H: Host>(host: &mut H, words: &ReadWords<'_>) -> Status
     ensures { (call : HostCall) × Follows (H.calls host.old) (H.calls host.new) call × IsRunOf words.now result call }
 {
     let disk = word_at(words, 0);
@@ -52,10 +53,10 @@ fn run_by<H: Host>(host: &mut H, words: &Words) -> Status
 }
 
 /// The word at this place, counted from 0, or an empty one where there is none.
-fn word_at(words: &Words, place: usize) -> &str
+fn word_at<'a>(words: &'a ReadWords<'_>, place: usize) -> &'a str
     ensures { result.now ≡ word_or_empty (slice_get words.now place) }
 {
-    words.get(place).unwrap_or("")
+    words.words().get(place).unwrap_or("")
 }
 
 /// The status of a run that has no words for this reason.

@@ -6,7 +6,7 @@ ghost use Rattle.pacsat_cli.specs.Start.{Follows};
 ghost use Rattle.program_rows.specs.MemoryHost.{IsCalled, IsRun, words_given};
 
 use command_words::Words;
-use pacsat_cli::{Host, HostCall, NotHeld, Status, WordsRefusal};
+use pacsat_cli::{Host, HostCall, NotHeld, ReadWords, Status, WordsRefusal};
 use px_base::{CallRecord, FileBytes, OutOfMemory};
 use std::alloc::Global;
 use std::marker::Model;
@@ -89,7 +89,7 @@ impl Host for MemoryHost {
         self.made.add(Ok(HostCall::Ends { status }));
     }
 
-    fn run_over_connection(&mut self, words: &Words, disk: &str, at: &str) -> Status
+    fn run_over_connection(&mut self, words: &ReadWords<'_>, disk: &str, at: &str) -> Status
         ensures run { IsRun self.old self.new result (HostCall.OverConnection words.now disk.now at.now result) }
     {
         let status = self.status;
@@ -98,7 +98,7 @@ impl Host for MemoryHost {
         status
     }
 
-    fn run_over_streams(&mut self, words: &Words, disk: &str) -> Status
+    fn run_over_streams(&mut self, words: &ReadWords<'_>, disk: &str) -> Status
         ensures run { IsRun self.old self.new result (HostCall.OverStreams words.now disk.now result) }
     {
         let status = self.status;
@@ -107,7 +107,7 @@ impl Host for MemoryHost {
         status
     }
 
-    fn run_without_air(&mut self, words: &Words, disk: &str) -> Status
+    fn run_without_air(&mut self, words: &ReadWords<'_>, disk: &str) -> Status
         ensures run { IsRun self.old self.new result (HostCall.WithoutAir words.now disk.now result) }
     {
         let status = self.status;
@@ -135,14 +135,14 @@ fn made_reads(answer: &Result<Words, WordsRefusal>) -> Result<HostCall, OutOfMem
 /// The record of a run over a connection.
 fn made_over_connection(
     alloc: Global,
-    words: &Words,
+    words: &ReadWords<'_>,
     disk: &str,
     at: &str,
     status: Status,
 ) -> Result<HostCall, OutOfMemory>
     ensures { IfOk result (λ call. call ≡ HostCall.OverConnection words.now disk.now at.now status) }
 {
-    let words = words.copy()?;
+    let words = words.words().copy()?;
     let disk = FileBytes::copy_of(alloc, disk.as_bytes())?;
     let at = FileBytes::copy_of(alloc, at.as_bytes())?;
     Ok(HostCall::OverConnection {
@@ -156,13 +156,13 @@ fn made_over_connection(
 /// The record of a run over the standard streams.
 fn made_over_streams(
     alloc: Global,
-    words: &Words,
+    words: &ReadWords<'_>,
     disk: &str,
     status: Status,
 ) -> Result<HostCall, OutOfMemory>
     ensures { IfOk result (λ call. call ≡ HostCall.OverStreams words.now disk.now status) }
 {
-    let words = words.copy()?;
+    let words = words.words().copy()?;
     let disk = FileBytes::copy_of(alloc, disk.as_bytes())?;
     Ok(HostCall::OverStreams {
         words,
@@ -174,13 +174,13 @@ fn made_over_streams(
 /// The record of a run without an air.
 fn made_without_air(
     alloc: Global,
-    words: &Words,
+    words: &ReadWords<'_>,
     disk: &str,
     status: Status,
 ) -> Result<HostCall, OutOfMemory>
     ensures { IfOk result (λ call. call ≡ HostCall.WithoutAir words.now disk.now status) }
 {
-    let words = words.copy()?;
+    let words = words.words().copy()?;
     let disk = FileBytes::copy_of(alloc, disk.as_bytes())?;
     Ok(HostCall::WithoutAir {
         words,

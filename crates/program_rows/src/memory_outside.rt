@@ -1,10 +1,8 @@
 //! What a run is over, in memory.
 
-ghost use Rattle.disk_model.specs.Cuts.{AreFresh, cuts_by};
-
 use anyhow::Result;
 use disk_model::{CutDisk, Disk};
-use pacsat_cli::{Words, fresh_bench, run};
+use pacsat_cli::{Bench, DiskMaker, FuseDisks, ReadWords, Words, run};
 use px_base::{MemoryAir, MemoryClock, MemoryOut, MemoryShelf};
 use row_words::read_numbers;
 use std::alloc::Global;
@@ -24,25 +22,23 @@ pub struct MemoryOutside {
 }
 
 impl MemoryOutside {
-    /// Runs the words over this disk and a fresh bench, and gives the status's number. Takes memory.
-    pub fn run<D: Disk>(&mut self, alloc: Global, words: &Words, disk: &mut D) -> Result<u8> {
-        let mut bench = fresh_bench(alloc)?;
-        Ok(self.run_over(alloc, words, disk, &mut bench))
+    /// Runs the words over this disk and a bench in memory, and gives the status's number. Takes memory.
+    pub fn run<D: Disk>(&mut self, alloc: Global, words: &Words, disk: &mut D) -> u8 {
+        let mut bench = Bench::new(alloc, FuseDisks);
+        self.run_over(alloc, words, disk, &mut bench)
     }
 
-    /// Runs the words over this disk and this bench, and gives the status's number.
-    pub fn run_over<D: Disk, B: CutDisk + Drop>(
+    /// Runs the words over this disk and this bench, and gives the status's number. Takes memory.
+    pub fn run_over<D: Disk, B: CutDisk + Drop, M: DiskMaker<B> + Drop>(
         &mut self,
         alloc: Global,
         words: &Words,
         disk: &mut D,
-        bench: &mut Vec<B>,
-    ) -> u8
-        requires { AreFresh B.Disk (cuts_by B.restarts B.arming B.plain B.is_starved) bench.old.items }
-    {
+        bench: &mut Bench<B, M>,
+    ) -> u8 {
         let status = run(
             alloc,
-            words,
+            &ReadWords::of(alloc, words),
             disk,
             &mut self.air,
             &mut self.shelf,

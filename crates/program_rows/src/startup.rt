@@ -21,7 +21,7 @@ impl Player for StartRows {
         let (held, status) = (read_held(held)?, read_status(status)?);
         let answer = read_answer(answer, read_words(alloc, words)?)?;
         let mut host = MemoryHost::new(alloc, held, answer, status);
-        let number = start(&mut host);
+        let number = start(alloc, &mut host);
         shown(alloc, number, host.made().calls())
     }
 }

@@ -4,7 +4,7 @@ ghost use Rattle.std.specs.Prelude.{List, Option};
 ghost use Rattle.pacsat_cli.specs.declared.startup.host.HostCall.{HostCall};
 ghost use Rattle.pacsat_cli.specs.Start.{Follows};
 
-use crate::Status;
+use crate::{ReadWords, Status};
 use command_words::Words;
 use px_base::FileBytes;
 use thiserror::Error;
@@ -82,15 +82,15 @@ pub trait Host {
 
     /// Does what the words ask for, over the file `disk`, the connection to the host and port `at`, and standard output
     /// for text.
-    fn run_over_connection(&mut self, words: &Words, disk: &str, at: &str) -> Status
+    fn run_over_connection(&mut self, words: &ReadWords<'_>, disk: &str, at: &str) -> Status
         ensures { Follows (calls self.old) (calls self.new)
             (HostCall.OverConnection words.now disk.now at.now result) };
 
     /// Does what the words ask for, over the file `disk`, standard input and output as air, and standard error for text.
-    fn run_over_streams(&mut self, words: &Words, disk: &str) -> Status
+    fn run_over_streams(&mut self, words: &ReadWords<'_>, disk: &str) -> Status
         ensures { Follows (calls self.old) (calls self.new) (HostCall.OverStreams words.now disk.now result) };
 
     /// Does what the words ask for, over the file `disk` and standard output for text. They name no air.
-    fn run_without_air(&mut self, words: &Words, disk: &str) -> Status
+    fn run_without_air(&mut self, words: &ReadWords<'_>, disk: &str) -> Status
         ensures { Follows (calls self.old) (calls self.new) (HostCall.WithoutAir words.now disk.now result) };
 }

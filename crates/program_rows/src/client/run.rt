@@ -93,6 +93,6 @@ impl OverDisk for Run<'_> {
 
     /// Runs the words over this disk, and gives the status's number.
     fn over<D: Disk>(&mut self, alloc: Global, disk: &mut D) -> Result<u8> {
-        self.outside.run(alloc, self.words, disk)
+        Ok(self.outside.run(alloc, self.words, disk))
     }
 }

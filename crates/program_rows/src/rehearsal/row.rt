@@ -1,14 +1,12 @@
 //! A row of a rehearsal.
 
-ghost use Rattle.disk_model.specs.Cuts.{AreFresh, cuts_by};
-
 use crate::memory_outside::{MemoryOutside, closed_air};
-use crate::rehearsal::bench::logs;
+use crate::rehearsal::bench::LogDisks;
 use crate::run::standing_text;
 use air_rehearsal::drive;
 use anyhow::{Context, Result, bail};
 use disk_model::{CutDisk, LogDisk, MemoryDisk};
-use pacsat_cli::{Words, fresh_bench};
+use pacsat_cli::{Bench, DiskMaker, FuseDisks, Words, fresh_disks};
 use px_base::{MemoryClock, MemoryOut, MemoryShelf, Shelf};
 use row_words::{Player, push_shown, read_words, text_of, three_parts, two_parts, with_lines};
 use std::alloc::Global;
@@ -44,10 +42,10 @@ fn text(alloc: Global, text: &str) -> Result<String> {
 /// `log TEXT`
 fn log(alloc: Global, text: &str) -> Result<String> {
     let text = with_lines(alloc, text)?;
-    let mut bench = logs(alloc)?;
+    let mut bench = Bench::new(alloc, LogDisks);
     let mut shown = played_over(alloc, WORDS, text.as_slice(), &mut bench)?;
-    push_restarts(alloc, &mut shown, bench.as_slice())?;
-    push_standings(alloc, &mut shown, bench.as_slice())?;
+    push_restarts(alloc, &mut shown, bench.disks.as_slice())?;
+    push_standings(alloc, &mut shown, bench.disks.as_slice())?;
     Ok(shown)
 }
 
@@ -86,19 +84,17 @@ fn push_standings(alloc: Global, shown: &mut String, bench: &[LogDisk]) -> Resul
 /// What these words come to over disks without octets and a shelf that has this schedule: the number of the status, and
 /// what was shown.
 fn played(alloc: Global, words: &str, schedule: &[u8]) -> Result<String> {
-    let mut bench = fresh_bench(alloc)?;
+    let mut bench = Bench::new(alloc, FuseDisks);
     played_over(alloc, words, schedule, &mut bench)
 }
 
-/// The same over these disks.
-fn played_over<B: CutDisk + Drop>(
+/// The same over the disks of this bench.
+fn played_over<B: CutDisk + Drop, M: DiskMaker<B> + Drop>(
     alloc: Global,
     words: &str,
     schedule: &[u8],
-    bench: &mut Vec<B>,
-) -> Result<String>
-    requires { AreFresh B.Disk (cuts_by B.restarts B.arming B.plain B.is_starved) bench.old.items }
-{
+    bench: &mut Bench<B, M>,
+) -> Result<String> {
     let words: Words = read_words(alloc, words)?;
     let mut outside = outside(alloc, schedule)?;
     let mut disk = MemoryDisk::new(alloc, &[], &[])?;
@@ -131,9 +127,9 @@ fn seed(alloc: Global, text: &str) -> Result<String> {
 /// `log-seed N COUNT`
 fn log_seed(alloc: Global, text: &str) -> Result<String> {
     let words = drawing(alloc, text)?;
-    let mut bench = logs(alloc)?;
+    let mut bench = Bench::new(alloc, LogDisks);
     let mut shown = played_over(alloc, words.as_str(), &[], &mut bench)?;
-    push_restarts(alloc, &mut shown, bench.as_slice())?;
+    push_restarts(alloc, &mut shown, bench.disks.as_slice())?;
     Ok(shown)
 }
 
@@ -158,7 +154,7 @@ struct Sums {
 impl Sums {
     /// Adds what a rehearsal counts that is drawn by this number, in so many rounds.
     fn add(&mut self, alloc: Global, seed: u64, count: u32) -> Result<()> {
-        let mut bench = fresh_bench(alloc)?;
+        let mut bench = fresh_disks(alloc, &FuseDisks)?;
         let report = drive(alloc, seed, count, &mut bench)?;
         self.acked = self.acked.saturating_add(report.acked);
         self.cuts = self.cuts.saturating_add(report.cuts);

@@ -141,7 +141,7 @@ fn play_over<D: Disk>(alloc: Global, row: &str, disk: &mut D) -> Result<String> 
     let (words, failing, heard) = three_parts(row, ';')?;
     let words = read_words(alloc, words)?;
     let mut outside = open(alloc, failing, heard)?;
-    let number = outside.run(alloc, &words, disk)?;
+    let number = outside.run(alloc, &words, disk);
     told_text(alloc, number, &outside)
 }
 

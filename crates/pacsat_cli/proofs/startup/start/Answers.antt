@@ -13,7 +13,7 @@ pub returns-in-Ok : goal.returns-in-Ok
 returns-in-Ok g c =
     ran (g.H.Host.calls c.args.host.now) (g.H.Host.calls c.hold_streams.new.self) (g.H.Host.calls c.run_by.new.host)
     c.hold_streams.result c.number.result (g.H.Host.calls c.words.new.self) c.in-Ok.words c.run_by.result
-    (sym c.if-is_err.ensures.value) c.hold_streams.ensures c.in-Ok.ensures c.run_by.ensures c.number.ensures
+    (sym c.if-is_err.ensures.value) c.hold_streams.ensures c.in-Ok.ensures (rw c.of.ensures at c.run_by.ensures) c.number.ensures
 
 pub returns-in-Err : goal.returns-in-Err
 returns-in-Err g c =
