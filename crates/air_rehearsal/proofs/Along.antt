@@ -1,8 +1,8 @@
 -- A rehearsal along the events of a schedule.
-use Rattle.std.specs.Prelude.{◌≡◌, ◌+◌, ◌<◌, ◌≤◌, ◌∷◌, ◌++◌}
-use Rattle.std.proofs.Common.{inr, sym, ap, ◌∙◌, subst, arith}
+use Rattle.std.specs.Prelude.{◌≡◌, ◌+◌, ◌≤◌, ◌∷◌, ◌++◌}
+use Rattle.std.proofs.Common.{sym, ap, ◌∙◌, subst, arith}
 use Rattle.air_rehearsal.specs.declared.report.Report.{Report as StoredReport}
-use Rattle.air_rehearsal.proofs.Names.{ℕ, zero, suc, List, [], length, take, drop, slice_get, Some, refl, AllByRecursion, append-nil, length-take-le, take_all, same_Some, slice_get_within, AreFresh, Cuts, LastsSo, cut_state, Ghosts, IsAllowed, Event, IsInRange, IsSchedule, Schedule, World, first_world, EndsSo, Bench, PlaysEvent, IsUnlawful, Rehearsed, until, last_world}
+use Rattle.air_rehearsal.proofs.Names.{ℕ, zero, suc, List, [], length, take, drop, slice_get, Some, refl, AllByRecursion, length-take-le, take_all, same_Some, slice_get_within, AreFresh, Cuts, LastsSo, cut_state, Ghosts, IsAllowed, Event, IsInRange, IsSchedule, Schedule, World, first_world, EndsSo, Bench, PlaysEvent, IsUnlawful, Rehearsed, until, last_world}
 use Rattle.air_rehearsal.proofs.Finished.{finished, refused}
 use Rattle.air_rehearsal.proofs.WholePlay.{PlayedSome, stepped}
 use Rattle.air_rehearsal.proofs.WholeRehearsal.{RehearsalLaws}

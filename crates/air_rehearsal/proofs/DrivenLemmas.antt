@@ -1,10 +1,10 @@
 -- A rehearsal whose events are drawn, from its first event to its end.
-use Rattle.std.specs.Prelude.{◌≡◌, ◌<◌, ◌≤◌, ◌∷◌, ◌++◌}
-use Rattle.std.proofs.Common.{inr, sym, ap, ◌∙◌, subst, append_assoc, arith}
+use Rattle.std.specs.Prelude.{◌∷◌, ◌++◌}
+use Rattle.std.proofs.Common.{sym, ap, ◌∙◌, subst, append_assoc}
 use Rattle.air_rehearsal.specs.declared.report.Report.{Report as StoredReport}
-use Rattle.air_rehearsal.proofs.Names.{ℕ, zero, suc, List, [], length, slice_get, Some, refl, AllByRecursion, append-nil, AreFresh, Cuts, LastsSo, cut_state, Ghosts, Plays, Event, IsInRange, IsSchedule, Schedule, World, first_world, Stage, EndsSo, HasPlayed, drawn_calls, rounds, Comes, Driven, PlaysEach, DrivenBy, IsDrawnBy, Turns, Bench, IsBench, IsStage, client_count, until, last_world, Station, place_of, the_server}
+use Rattle.air_rehearsal.proofs.Names.{ℕ, List, [], refl, AllByRecursion, append-nil, AreFresh, Cuts, LastsSo, cut_state, Ghosts, Plays, Event, IsInRange, IsSchedule, Schedule, World, first_world, EndsSo, HasPlayed, drawn_calls, rounds, Comes, Driven, PlaysEach, DrivenBy, IsDrawnBy, Turns, Bench, until, last_world}
 use Rattle.air_rehearsal.proofs.CourseLemmas.{last_more}
-use Rattle.air_rehearsal.proofs.DriveLemmas.{drawing, played_by}
+use Rattle.air_rehearsal.proofs.DriveLemmas.{drawing}
 use Rattle.air_rehearsal.proofs.Finished.{finished}
 use Rattle.air_rehearsal.proofs.WholePlay.{stepped}
 use Rattle.air_rehearsal.proofs.WholeRehearsal.{RehearsalLaws}

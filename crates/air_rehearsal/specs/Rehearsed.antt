@@ -1,5 +1,5 @@
 -- What a rehearsal of a schedule comes to: its report, or the event that may not come.
-use Rattle.std.specs.Prelude.{◌≡◌, ◌⊎◌, ℕ, ◌+◌, ◌<◌, List, [], ◌∷◌, ◌++◌, length, slice_get, Some, ⊤}
+use Rattle.std.specs.Prelude.{◌≡◌, ℕ, ◌+◌, List, ◌∷◌, ◌++◌, length, slice_get, Some}
 use Rattle.std.specs.List.{AllByRecursion}
 use Rattle.disk_model.specs.Cuts.{Cuts}
 use Rattle.disk_model.specs.Moments.{LeavesSince}
@@ -17,8 +17,7 @@ use Rattle.air_rehearsal.specs.Counting.{Tells}
 use Rattle.air_rehearsal.specs.Played.{BenchPlayed, EndsWhole, PlayedAt, StaysSo, TellsCuts, first_stage}
 use Rattle.air_rehearsal.specs.Report.{IsReport, Report, last_world}
 use Rattle.air_rehearsal.specs.ServerEvents.{CanCount}
-use Rattle.air_rehearsal.specs.Standing.{StandsDuring, StandsFor}
-use Rattle.air_rehearsal.specs.Stations.{IsStationOf, Station, acts, breaks_off, client_at, place_of, role_of}
+use Rattle.air_rehearsal.specs.Stations.{IsStationOf, Station, place_of}
 use Rattle.air_rehearsal.specs.Stations.{the_server}
 use Rattle.air_rehearsal.specs.declared.report.Report.{Report as StoredReport}
 

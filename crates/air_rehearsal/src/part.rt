@@ -11,7 +11,7 @@ ghost use Rattle.air_rehearsal.specs.PartCalls.{ActsPart, BeCut, BeginsPart, Kee
 ghost use Rattle.air_rehearsal.specs.PartCalls.{uploads_by};
 ghost use Rattle.air_rehearsal.specs.Ready.{IsReadyParty, IsTheirs, KeepsParty, MayDo};
 ghost use Rattle.air_rehearsal.specs.Seats.{asks as asks_in};
-ghost use Rattle.air_rehearsal.specs.TakingPart.{CarriesPart, IsPart, IsSeat, Seat, TakesPart};
+ghost use Rattle.air_rehearsal.specs.TakingPart.{IsPart, IsSeat, Seat, TakesPart};
 ghost use Rattle.air_rehearsal.specs.Worlds.{IsSteady};
 
 use crate::cuts::Cut;

@@ -1,6 +1,6 @@
 //! A client of the rehearsal.
 
-ghost use Rattle.std.specs.Prelude.{◌≡◌, ◌≤◌, ◌<◌, ◌↔◌, ℕ, length, IfOk, IfSome, IsTrue, MatchOption, OnOk};
+ghost use Rattle.std.specs.Prelude.{◌≡◌, ◌≤◌, ◌<◌, ◌↔◌, length, IfOk, IfSome, IsTrue, MatchOption, OnOk};
 ghost use Rattle.ax25_frames.specs.FrameText.{FrameText, FrameValue};
 ghost use Rattle.ax25_frames.specs.Kinds.{FitsControl};
 ghost use Rattle.ax25_frames.specs.Values.{value_of};
@@ -25,8 +25,7 @@ ghost use Rattle.air_rehearsal.specs.Drawn.{last_acked as last_acked_in};
 ghost use Rattle.air_rehearsal.specs.NotedTasks.{number_if_acked, number_if_going};
 ghost use Rattle.air_rehearsal.specs.PartyCalls.{BreaksOff, IsLastGoing, IsOpened};
 ghost use Rattle.air_rehearsal.specs.Ready.{IsReadyParty, IsTheirs, KeepsParty};
-ghost use Rattle.air_rehearsal.specs.Stations.{client_at};
-ghost use Rattle.air_rehearsal.specs.TakingPart.{AsksNext, CarriesPart, IsSeat, Resumes, Seat};
+ghost use Rattle.air_rehearsal.specs.TakingPart.{AsksNext, IsSeat, Resumes, Seat};
 ghost use Rattle.air_rehearsal.specs.Worlds.{IsSteady};
 
 use crate::asking::sum_of;

@@ -1,6 +1,6 @@
 //! One event is played.
 
-ghost use Rattle.std.specs.Prelude.{◌≡◌, ◌∷◌, ℕ, IfOk, IsErr, OnErr, OnOk, suc};
+ghost use Rattle.std.specs.Prelude.{◌≡◌, IfOk, IsErr, OnOk, suc};
 ghost use Rattle.ax25_link.specs.Window.{IsGoodK};
 ghost use Rattle.disk_model.specs.Cuts.{cuts_by};
 ghost use Rattle.air_schedule.specs.Events.{event_value};
@@ -13,7 +13,6 @@ ghost use Rattle.air_rehearsal.specs.Ready.{AreReady, IsReadyServer};
 ghost use Rattle.air_rehearsal.specs.ServerEvents.{CanCount, CountsOn};
 ghost use Rattle.air_rehearsal.specs.Seats.{ComesAlways, CountsCut, CountsEvent, GoesApart, MayTake, TookPart};
 ghost use Rattle.air_rehearsal.specs.Seats.{clients_of};
-ghost use Rattle.air_rehearsal.specs.Stations.{client_at};
 
 use crate::asking::{Upload, file_of};
 use crate::cuts::Cut;

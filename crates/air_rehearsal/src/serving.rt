@@ -1,6 +1,6 @@
 //! The events of the server.
 
-ghost use Rattle.std.specs.Prelude.{◌≡◌, ℕ, suc, [], ◌∷◌, slice_get, false, true, is_ok, IfOk, OnOk};
+ghost use Rattle.std.specs.Prelude.{◌≡◌, suc, [], ◌∷◌, slice_get, false, true, is_ok, IfOk, OnOk};
 ghost use Rattle.ax25_frames.specs.FrameText.{FrameText, FrameValue};
 ghost use Rattle.ax25_link.specs.Window.{IsGoodK};
 ghost use Rattle.disk_model.specs.Cuts.{cuts_by};

@@ -1,6 +1,6 @@
 //! The stations of a rehearsal, and which events may come.
 
-ghost use Rattle.std.specs.Prelude.{◌≡◌, ◌↔◌, ◌≤◌, ℕ, List, length, false, IfOk, IsOk, IsTrue, OnErr, ⊤};
+ghost use Rattle.std.specs.Prelude.{◌≡◌, ◌↔◌, ◌≤◌, ℕ, List, length, false, IfOk, IsOk, IsTrue, ⊤};
 ghost use Rattle.std.specs.Option.{option_copied};
 ghost use Rattle.air_schedule.specs.Events.{event_value};
 ghost use Rattle.ax25_link.specs.Air.{Transmission};
@@ -18,7 +18,6 @@ ghost use Rattle.disk_model.specs.Cuts.{cuts_by};
 ghost use Rattle.air_rehearsal.specs.Opening.{OpensAll, OpensClient, OpensFirst};
 ghost use Rattle.air_rehearsal.specs.Ready.{AreReady, IsReadyParty, IsReadyServer};
 ghost use Rattle.air_rehearsal.specs.ServerCalls.{IsRestarted, IsStarted};
-ghost use Rattle.air_rehearsal.specs.Stations.{client_at, the_server};
 
 use crate::asking::Upload;
 use crate::cuts::Cut;

@@ -1,7 +1,7 @@
 use Rattle.std.proofs.Common.{◌≡◌, ◌∷◌, ℕ, ◌+◌, ◌≤◌, length, sym, ap, ◌∙◌, subst, arith, refl}
 use Rattle.std.proofs.Common.{◌%◌}
 use Rattle.air_rehearsal.specs.declared.rehearsing.RehearseStop.TheVariants as stop
-use Rattle.air_rehearsal.proofs.Names.{List, map, slice_get, Some, false, true, option_map, length-map, slice_get-map, slice_get_read, cuts_by, CallSign, Event, IsInRange, World, event_value, OpensAll, bench_of, CanCount, the_server}
+use Rattle.air_rehearsal.proofs.Names.{List, map, slice_get, Some, false, true, option_map, length-map, slice_get-map, slice_get_read, cuts_by, CallSign, Event, IsInRange, event_value, OpensAll, bench_of, CanCount, the_server}
 use Rattle.air_rehearsal.proofs.Along.{all_there, ends_there, goes_along, stops_there}
 use Rattle.air_rehearsal.proofs.FirstBench.{played_first}
 use Rattle.air_rehearsal.proofs.rehearsing.rehearse_over.Goals as goal

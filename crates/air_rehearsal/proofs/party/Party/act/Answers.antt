@@ -1,7 +1,7 @@
 -- The client does its part, and then sends all that it has to send: that is its step, and its lanes go by the law.
 use Rattle.std.proofs.Common.{sym, subst}
 use Rattle.ftl0_client.specs.ClientStep.{happening}
-use Rattle.air_rehearsal.proofs.Names.{client_started, lanes_of, ActsPart, CarriesPart}
+use Rattle.air_rehearsal.proofs.Names.{client_started, lanes_of, ActsPart}
 use Rattle.air_rehearsal.proofs.ActLemmas.{acts}
 use Rattle.air_rehearsal.proofs.LaneLaws.{client_lanes}
 use Rattle.air_rehearsal.proofs.PartLemmas.{ok_both, ok_then}

@@ -1,7 +1,7 @@
 -- Each part by its own call.
 use Rattle.std.proofs.Common.{subst}
 use Rattle.air_rehearsal.proofs.Names.{IsPart, Part}
-use Rattle.air_rehearsal.proofs.PartLemmas.{carries_same, ok_then}
+use Rattle.air_rehearsal.proofs.PartLemmas.{ok_then}
 use Rattle.air_rehearsal.proofs.party.Party.do_part.Goals as goal
 
 pub returns-in-Download-clause-begins : goal.returns-in-Download-clause-begins

@@ -1,7 +1,7 @@
 -- By what came to the server.
 use Rattle.std.proofs.Common.{sym, subst, ◌∙◌}
 use Rattle.air_rehearsal.specs.declared.serving.ServerEvent.{ServerEvent}
-use Rattle.air_rehearsal.proofs.Names.{AnswersEvent, IsServer, Server, Store}
+use Rattle.air_rehearsal.proofs.Names.{AnswersEvent}
 use Rattle.air_rehearsal.proofs.PlayParts.{on_ok, on_ok_of}
 use Rattle.air_rehearsal.proofs.ServingKeeps.{keeps-self}
 use Rattle.air_rehearsal.proofs.stations.Stations.answer.Goals as goal

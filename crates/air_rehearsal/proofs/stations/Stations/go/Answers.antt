@@ -1,7 +1,7 @@
-use Rattle.std.proofs.Common.{◌≡◌, refl, sym, ap, ◌∙◌, subst, suc, ℕ, IfOk, OnErr}
+use Rattle.std.proofs.Common.{◌≡◌, refl, sym, ap, ◌∙◌, subst, suc, ℕ, IfOk}
 use Rattle.air_rehearsal.proofs.Names.{cuts_by, event_value, Event, tick_server, to_server, bench_of}
 use Rattle.air_rehearsal.proofs.PlayParts.{if_ok, number_at, on_ok_of}
-use Rattle.air_rehearsal.proofs.PlayServer.{GoesSo, awaits, goes_event, served_ready}
+use Rattle.air_rehearsal.proofs.PlayServer.{GoesSo, goes_event, served_ready}
 use Rattle.air_rehearsal.proofs.stations.Stations.go.Goals as goal
 
 pub returns-in-Some-Some-clause-clients : goal.returns-in-Some-Some-clause-clients

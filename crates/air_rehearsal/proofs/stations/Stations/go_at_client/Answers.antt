@@ -1,4 +1,3 @@
-use Rattle.std.proofs.Common.{refl}
 use Rattle.air_rehearsal.proofs.Names.{cuts_by, event_value, clients_of}
 use Rattle.air_rehearsal.proofs.PlayApart.{goes_taken}
 use Rattle.air_rehearsal.proofs.PlayParts.{on_ok}

@@ -1,7 +1,7 @@
-use Rattle.std.proofs.Common.{◌∷◌, sym, subst}
+use Rattle.std.proofs.Common.{sym, subst}
 use Rattle.air_rehearsal.proofs.Names.{cuts_by, event_value, bench_of, AreReady, Stations}
 use Rattle.air_rehearsal.proofs.PlayParts.{if_ok}
-use Rattle.air_rehearsal.proofs.PlayServer.{counted_is_bench, counted_moment, plays_event}
+use Rattle.air_rehearsal.proofs.PlayServer.{plays_event}
 use Rattle.air_rehearsal.proofs.stations.Stations.play.Goals as goal
 
 pub go-requires-clause-clients : goal.go-requires-clause-clients

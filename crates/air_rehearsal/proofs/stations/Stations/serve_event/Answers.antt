@@ -1,6 +1,6 @@
 -- The server takes part in its event, whichever it is.
-use Rattle.std.proofs.Common.{◌≡◌, Option, None, Some, false, true, refl, sym, ap, subst, ◌∙◌, arith}
-use Rattle.air_rehearsal.proofs.Names.{is_ok, cuts_by, event_of, ArmsFor, IsTaken, IsUp, serving, Cut}
+use Rattle.std.proofs.Common.{◌≡◌, Option, None, Some, refl, sym, ap, subst, ◌∙◌, arith}
+use Rattle.air_rehearsal.proofs.Names.{cuts_by, event_of, ArmsFor, IsTaken, IsUp, serving, Cut}
 use Rattle.air_rehearsal.proofs.LaneLaws.{hearing_lanes, ticking_lanes}
 use Rattle.air_rehearsal.proofs.PlayParts.{on_ok}
 use Rattle.air_rehearsal.proofs.SameContent.{arms-content, plays-armed}

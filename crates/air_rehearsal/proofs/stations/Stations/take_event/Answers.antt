@@ -1,5 +1,5 @@
 -- The event that comes is the world's: the frame that it delivers, or a tick.
-use Rattle.std.proofs.Common.{◌≡◌, ℕ, refl, sym, ap, subst, ◌∙◌, arith}
+use Rattle.std.proofs.Common.{ℕ, refl, sym, ap, subst, ◌∙◌, arith}
 use Rattle.air_rehearsal.specs.declared.serving.ServerEvent.{ServerEvent}
 use Rattle.air_rehearsal.proofs.Names.{event_of, happening, Hears, IsAllowed, IsTaken, serving, ticks}
 use Rattle.air_rehearsal.proofs.PlayParts.{on_ok_of}
