@@ -292,7 +292,7 @@ impl Driver {
         count: u32,
     ) -> Result<Server, Stopped>
         requires { IsReadyBench B.Disk (bench_of self.old.stations server disk.old disks.old) }
-        ensures drives { IfOk result (λ later. Drives B.Disk (cuts_by B.restarts B.arming B.plain B.is_starved)
+        ensures { IfOk result (λ later. Drives B.Disk (cuts_by B.restarts B.arming B.plain B.is_starved)
             (Turns (rounds count)) (driven_by self.old server disk.old disks.old)
             (driven_by self.new later disk.new disks.new)) }
     {
@@ -311,7 +311,7 @@ impl Driver {
         disks: &mut [B],
     ) -> Result<Server, Stopped>
         requires { IsReadyBench B.Disk (bench_of self.old.stations server disk.old disks.old) }
-        ensures drives { IfOk result (λ later. Drives B.Disk (cuts_by B.restarts B.arming B.plain B.is_starved)
+        ensures { IfOk result (λ later. Drives B.Disk (cuts_by B.restarts B.arming B.plain B.is_starved)
             (Turns (rounds 1)) (driven_by self.old server disk.old disks.old)
             (driven_by self.new later disk.new disks.new)) }
     {
@@ -329,7 +329,7 @@ impl Driver {
         client: u64,
     ) -> Result<Server, Stopped>
         requires { IsReadyBench B.Disk (bench_of self.old.stations server disk.old disks.old) }
-        ensures drives { IfOk result (λ later. Drives B.Disk (cuts_by B.restarts B.arming B.plain B.is_starved)
+        ensures { IfOk result (λ later. Drives B.Disk (cuts_by B.restarts B.arming B.plain B.is_starved)
             (Turn client) (driven_by self.old server disk.old disks.old)
             (driven_by self.new later disk.new disks.new)) }
     {
@@ -350,7 +350,7 @@ impl Driver {
     ) -> Result<Server, Stopped>
         requires ready { IsReadyBench B.Disk (bench_of self.old.stations server disk.old disks.old) }
         requires fits { IsFitEvent self.old.stations event }
-        ensures drives { IfOk result (λ later. Drives B.Disk (cuts_by B.restarts B.arming B.plain B.is_starved)
+        ensures { IfOk result (λ later. Drives B.Disk (cuts_by B.restarts B.arming B.plain B.is_starved)
             (TriesIf (option_map event_value event)) (driven_by self.old server disk.old disks.old)
             (driven_by self.new later disk.new disks.new)) }
     {
@@ -399,7 +399,7 @@ impl Driver {
         client: u64,
     ) -> Result<Server, Stopped>
         requires { IsReadyBench B.Disk (bench_of self.old.stations server disk.old disks.old) }
-        ensures drives { IfOk result (λ later. Drives B.Disk (cuts_by B.restarts B.arming B.plain B.is_starved)
+        ensures { IfOk result (λ later. Drives B.Disk (cuts_by B.restarts B.arming B.plain B.is_starved)
             (TurnExchanges client) (driven_by self.old server disk.old disks.old)
             (driven_by self.new later disk.new disks.new)) }
     {
@@ -426,7 +426,7 @@ impl Driver {
         looked: &mut Looked,
     ) -> Result<Server, Stopped>
         requires { IsReadyBench B.Disk (bench_of self.old.stations server disk.old disks.old) }
-        ensures drives { IfOk result (λ later. Drives B.Disk (cuts_by B.restarts B.arming B.plain B.is_starved)
+        ensures { IfOk result (λ later. Drives B.Disk (cuts_by B.restarts B.arming B.plain B.is_starved)
             (Exchange client looked.old looked.new) (driven_by self.old server disk.old disks.old)
             (driven_by self.new later disk.new disks.new)) }
     {
@@ -465,7 +465,7 @@ impl Driver {
         client: u64,
     ) -> Result<Server, Stopped>
         requires { IsReadyBench B.Disk (bench_of self.old.stations server disk.old disks.old) }
-        ensures drives { IfOk result (λ later. Drives B.Disk (cuts_by B.restarts B.arming B.plain B.is_starved)
+        ensures { IfOk result (λ later. Drives B.Disk (cuts_by B.restarts B.arming B.plain B.is_starved)
             (Answers client [] []) (driven_by self.old server disk.old disks.old)
             (driven_by self.new later disk.new disks.new)) }
     {
@@ -485,7 +485,7 @@ impl Driver {
         to: usize,
     ) -> Result<Server, Stopped>
         requires { IsReadyBench B.Disk (bench_of self.old.stations server disk.old disks.old) }
-        ensures drives { IfOk result (λ later. Drives B.Disk (cuts_by B.restarts B.arming B.plain B.is_starved)
+        ensures { IfOk result (λ later. Drives B.Disk (cuts_by B.restarts B.arming B.plain B.is_starved)
             (Carries (delivery_of way client) None (between from to)) (driven_by self.old server disk.old disks.old)
             (driven_by self.new later disk.new disks.new)) }
     {
@@ -514,7 +514,7 @@ impl Driver {
     ) -> Result<Server, Stopped>
         requires ready { IsReadyBench B.Disk (bench_of self.old.stations server disk.old disks.old) }
         requires place { place < 2 ^ 64 - 1 }
-        ensures drives { IfOk result (λ later. Drives B.Disk (cuts_by B.restarts B.arming B.plain B.is_starved)
+        ensures { IfOk result (λ later. Drives B.Disk (cuts_by B.restarts B.arming B.plain B.is_starved)
             (TriesTimes times (delivery_of way client (place + 1))) (driven_by self.old server disk.old disks.old)
             (driven_by self.new later disk.new disks.new)) }
     {

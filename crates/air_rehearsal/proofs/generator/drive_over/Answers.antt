@@ -32,7 +32,7 @@ returns-in-Ok-end-clause-driven g c =
     c.sound_law.ensures (drawn_schedule []) drawn-lawful c.args.disk.now c.start.new.disk c.args.disks.now
     c.open.new.disks c.requires c.in-Ok-open.stations c.in-Ok-start.server opens c.in-Ok-start.ensures.starts
     (c.in-Ok-start.ensures.memory refl) in
-    let turns = c.in-Ok-rounds.ensures.drives in
+    let turns = c.in-Ok-rounds.ensures in
     let lasts = g.met.B.CutDisk.lasts_so c.rounds.new.disk c.end.new.disk c.end.ensures.lasts in
     let could : CanCount g.B.Disk c.rounds.new.disk =
     (let on = lasts.writes in let can = tell c.end.new.disk refl in omega (arith, on, can)) in
@@ -61,11 +61,3 @@ returns-in-Err-open-clause-lawful g c = λ line is.
 pub returns-in-Err-start-clause-lawful : goal.returns-in-Err-start-clause-lawful
 returns-in-Err-start-clause-lawful g c = λ line is.
     let same : c.ended-in-Err-start.result ≡ stop.Unlawful line = cc in absurd (c.ended-in-Err-start.ensures line same)
-
-pub returns-in-Err-rounds-clause-lawful : goal.returns-in-Err-rounds-clause-lawful
-returns-in-Err-rounds-clause-lawful g c = λ line is.
-    let same : c.ended-in-Err-rounds.result ≡ stop.Unlawful line = cc in absurd (c.ended-in-Err-rounds.ensures line same)
-
-pub returns-in-Err-end-clause-lawful : goal.returns-in-Err-end-clause-lawful
-returns-in-Err-end-clause-lawful g c = λ line is.
-    let same : c.ended-in-Err-end.result ≡ stop.Unlawful line = cc in absurd (c.ended-in-Err-end.ensures line same)

@@ -99,10 +99,6 @@ loop-event-preserved g c =
           omega (arith, was, few, many.0, many.1, c.loop-event-test.true, l.auto.event-index-end) in e);
     }
 
-pub returns-in-Err-end-clause-unlawful : goal.returns-in-Err-end-clause-unlawful
-returns-in-Err-end-clause-unlawful g c = λ line is tell.
-    let same : c.ended-in-Err-end.result ≡ stop.Unlawful line = cc in absurd (c.ended-in-Err-end.ensures line same)
-
 pub returns-in-Ok-end-clause-rehearsed : goal.returns-in-Ok-end-clause-rehearsed
 returns-in-Ok-end-clause-rehearsed g c = λ tell.
     let cuts = cuts_by g.B.CutDisk.restarts g.B.CutDisk.arming g.B.CutDisk.plain g.B.CutDisk.is_starved in

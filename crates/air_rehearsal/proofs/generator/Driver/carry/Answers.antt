@@ -18,7 +18,7 @@ pub repeat-requires-clause-ready : goal.repeat-requires-clause-ready
 repeat-requires-clause-ready g c = c.loop-place.invariant.drives.ready
 
 pub play-requires-clause-ready : goal.play-requires-clause-ready
-play-requires-clause-ready g c = c.in_ok-server.ensures.drives.ready
+play-requires-clause-ready g c = c.in_ok-server.ensures.ready
 
 pub play-requires-clause-fits : goal.play-requires-clause-fits
 play-requires-clause-fits g c = λ world sound plays. c.loop-place.invariant.late
@@ -57,7 +57,7 @@ loop-place-preserved g c =
     let amid : Driven _ = driven_by c.repeat.new.self c.in_ok-server.server c.repeat.new.disk c.repeat.new.disks in
     let second =
     subst (λ (n : ℕ). Drives g.B.Disk cuts (TriesTimes n (event (place + 1))) before amid)
-    (c.times.ensures ∙ ap times_of fate_is) c.in_ok-server.ensures.drives in
+    (c.times.ensures ∙ ap times_of fate_is) c.in_ok-server.ensures in
     record {
       late =
           subst (λ (o : Option _). IfSome o (λ it. IsInRange (event_value it))) (sym c.put_off-late.ensures)
@@ -75,11 +75,11 @@ loop-place-preserved g c =
           (drives_then g.B.Disk cuts (λ (old new : Drawing). new ≡ drawn 1 old)
           (Then (TriesTimes (times_of fate) (event (place + 1))) (TriesIf waiting)) _ _ _ first
           (drives_then g.B.Disk cuts (TriesTimes (times_of fate) (event (place + 1))) (TriesIf waiting) _ _ _ second
-          c.in_ok-server-2.ensures.drives)));
+          c.in_ok-server-2.ensures)));
     }
 
-pub returns-clause-drives : goal.returns-clause-drives
-returns-clause-drives g c =
+pub returns : goal.returns
+returns g c =
     let cuts = cuts_by g.B.CutDisk.restarts g.B.CutDisk.arming g.B.CutDisk.plain g.B.CutDisk.is_starved in
     let l = c.loop-place in
     let event : ℕ → Event = delivery_of c.args.way c.args.client in

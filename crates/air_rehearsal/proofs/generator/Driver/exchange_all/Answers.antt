@@ -19,8 +19,8 @@ loop-init g c =
 pub is_closed-requires : goal.is_closed-requires
 is_closed-requires g c = c.loop.invariant.ready.clients
 
-pub returns-then-is_closed-clause-drives : goal.returns-then-is_closed-clause-drives
-returns-then-is_closed-clause-drives g c =
+pub returns-then-is_closed : goal.returns-then-is_closed
+returns-then-is_closed g c =
     let cuts = cuts_by g.B.CutDisk.restarts g.B.CutDisk.arming g.B.CutDisk.plain g.B.CutDisk.is_starved in
     let client : ℕ = c.args.client in
     let left = Exchanges (20 - c.loop.counter) client c.loop.looked in
@@ -57,10 +57,10 @@ loop-preserved g c =
     (subst (λ w. IsClosed w client) is closed) in cc)
     (subst (λ (it : Looked). Exchange client it now x y)
     (c.at-looked.ensures world playing.bench.plays.stations ∙ ap (λ w. still_looked w client looked) (sym is)) exchange)
-    exchanges) c.in_ok-server.ensures.drives)
+    exchanges) c.in_ok-server.ensures)
 
-pub returns-clause-drives : goal.returns-clause-drives
-returns-clause-drives g c =
+pub returns : goal.returns
+returns g c =
     let cuts = cuts_by g.B.CutDisk.restarts g.B.CutDisk.arming g.B.CutDisk.plain g.B.CutDisk.is_starved in
     let client : ℕ = c.args.client in
     owes_done g.B.Disk cuts (λ (old new : Drawing). Exchanges 20 client (none_looked old.world client) old new)

@@ -12,15 +12,15 @@ play-requires-clause-server g c = c.requires.ready.server
 pub play-requires-clause-clients : goal.play-requires-clause-clients
 play-requires-clause-clients g c = c.requires.ready.clients
 
-pub returns-in_default-clause-drives : goal.returns-in_default-clause-drives
-returns-in_default-clause-drives g c =
+pub returns-in_default : goal.returns-in_default
+returns-in_default g c =
     let cuts = cuts_by g.B.CutDisk.restarts g.B.CutDisk.arming g.B.CutDisk.plain g.B.CutDisk.is_starved in
     let at = driven_by c.args.self.now c.args.server c.args.disk.now c.args.disks.now in
     subst (λ (o : Option StoredEvent). Drives g.B.Disk cuts (TriesIf (option_map event_value o)) at at)
     (sym c.in_default.is) (drives_none g.B.Disk cuts at c.requires.ready)
 
-pub returns-then-not-allows-clause-drives : goal.returns-then-not-allows-clause-drives
-returns-then-not-allows-clause-drives g c =
+pub returns-then-not-allows : goal.returns-then-not-allows
+returns-then-not-allows g c =
     let cuts = cuts_by g.B.CutDisk.restarts g.B.CutDisk.arming g.B.CutDisk.plain g.B.CutDisk.is_starved in
     let at = driven_by c.args.self.now c.args.server c.args.disk.now c.args.disks.now in
     subst (λ (o : Option StoredEvent). Drives g.B.Disk cuts (TriesIf (option_map event_value o)) at at) (sym c.in-Some.is)
@@ -29,8 +29,8 @@ returns-then-not-allows-clause-drives g c =
     let no : false ≡ true =
     (c.if-not-allows.ensures world playing.bench.sound playing.bench.plays.stations).1 allowed.possible in cc))
 
-pub returns-clause-drives : goal.returns-clause-drives
-returns-clause-drives g c =
+pub returns : goal.returns
+returns g c =
     let cuts = cuts_by g.B.CutDisk.restarts g.B.CutDisk.arming g.B.CutDisk.plain g.B.CutDisk.is_starved in
     let old = driven_by c.args.self.now c.args.server c.args.disk.now c.args.disks.now in
     IfOk-weaker c.play.result _ _

@@ -35,10 +35,10 @@ loop-preserved g c =
     (drives_as g.B.Disk cuts _ (Owes (TriesTimes (times - i) event) (TriesTimes (times - (i + 1)) event)) _ _
     (λ x y tries last left.
     times-more event times i x y last c.loop-test.true (subst (λ (e : Event). Tries e x y) c.delivery-delivery.ensures tries) left)
-    c.in_ok-server.ensures.drives)
+    c.in_ok-server.ensures)
 
-pub returns-clause-drives : goal.returns-clause-drives
-returns-clause-drives g c =
+pub returns : goal.returns
+returns g c =
     let cuts = cuts_by g.B.CutDisk.restarts g.B.CutDisk.arming g.B.CutDisk.plain g.B.CutDisk.is_starved in
     let event : Event = delivery_of c.args.way c.args.client (c.args.place + 1) in
     let times : ℕ = c.args.times in

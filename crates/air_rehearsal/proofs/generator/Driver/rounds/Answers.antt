@@ -24,10 +24,10 @@ loop-preserved g c =
     owes_more g.B.Disk cuts (Turns (rounds count)) (Turns (rounds (count - i))) (Turns (rounds (count - (i + 1)))) _ _ _
     c.loop.invariant
     (drives_as g.B.Disk cuts (Turns (rounds 1)) (Owes (Turns (rounds (count - i))) (Turns (rounds (count - (i + 1))))) _ _
-    (λ x y turns last left. rounds-more count i x y last c.loop-test.true turns left) c.in_ok-server.ensures.drives)
+    (λ x y turns last left. rounds-more count i x y last c.loop-test.true turns left) c.in_ok-server.ensures)
 
-pub returns-clause-drives : goal.returns-clause-drives
-returns-clause-drives g c =
+pub returns : goal.returns
+returns g c =
     let cuts = cuts_by g.B.CutDisk.restarts g.B.CutDisk.arming g.B.CutDisk.plain g.B.CutDisk.is_starved in
     let count : ℕ = c.args.count in
     let i : ℕ = c.loop.counter in

@@ -10,15 +10,15 @@ pub play-requires-clause-fits : goal.play-requires-clause-fits
 play-requires-clause-fits g c = λ world sound plays. tt
 
 pub play-requires-2-clause-ready : goal.play-requires-2-clause-ready
-play-requires-2-clause-ready g c = c.in_ok-server.ensures.drives.ready
+play-requires-2-clause-ready g c = c.in_ok-server.ensures.ready
 
 pub play-requires-2-clause-fits : goal.play-requires-2-clause-fits
 play-requires-2-clause-fits g c = λ world sound plays. tt
 
-pub returns-clause-drives : goal.returns-clause-drives
-returns-clause-drives g c =
+pub returns : goal.returns
+returns g c =
     let cuts = cuts_by g.B.CutDisk.restarts g.B.CutDisk.arming g.B.CutDisk.plain g.B.CutDisk.is_starved in
     IfOk-weaker c.play-2.result _ _
     (λ later last.
-    drives_then g.B.Disk cuts (Tries (tick_client c.args.client)) (Tries tick_server) _ _ _ c.in_ok-server.ensures.drives last)
-    c.play-2.ensures.drives
+    drives_then g.B.Disk cuts (Tries (tick_client c.args.client)) (Tries tick_server) _ _ _ c.in_ok-server.ensures last)
+    c.play-2.ensures

@@ -13,7 +13,7 @@ pub play-requires-clause-fits : goal.play-requires-clause-fits
 play-requires-clause-fits g c = c.wish-wish.ensures.fits
 
 pub exchange_all-requires : goal.exchange_all-requires
-exchange_all-requires g c = c.in_ok-server.ensures.drives.ready
+exchange_all-requires g c = c.in_ok-server.ensures.ready
 
 pub play-requires-2-clause-ready : goal.play-requires-2-clause-ready
 play-requires-2-clause-ready g c =
@@ -21,13 +21,13 @@ play-requires-2-clause-ready g c =
     (λ (s : Stations).
     IsReadyBench g.B.Disk
     (bench_of s c.in_ok-server-2.server c.exchange_all.new.disk c.exchange_all.new.disks))
-    (sym c.ending-ending.ensures.same) c.in_ok-server-2.ensures.drives.ready
+    (sym c.ending-ending.ensures.same) c.in_ok-server-2.ensures.ready
 
 pub play-requires-2-clause-fits : goal.play-requires-2-clause-fits
 play-requires-2-clause-fits g c = c.ending-ending.ensures.fits
 
-pub returns-clause-drives : goal.returns-clause-drives
-returns-clause-drives g c =
+pub returns : goal.returns
+returns g c =
     let cuts = cuts_by g.B.CutDisk.restarts g.B.CutDisk.arming g.B.CutDisk.plain g.B.CutDisk.is_starved in
     let client = c.args.client in
     IfOk-weaker c.play-2.result _ _
@@ -53,7 +53,7 @@ returns-clause-drives g c =
     (drives_takes g.B.Disk cuts (λ state world. wish state client world) c.wish-wish.result _ _ _
     (ap (λ (s : Stations). bench_of s c.args.server c.args.disk.now c.args.disks.now) c.wish-wish.ensures.same)
     (λ world playing. c.wish-wish.ensures.wish world playing.bench.sound playing.bench.plays.stations)
-    c.in_ok-server.ensures.drives) c.in_ok-server-2.ensures.drives)
+    c.in_ok-server.ensures) c.in_ok-server-2.ensures)
     (drives_takes g.B.Disk cuts (λ state world. ending state client) c.ending-ending.result _ _ _
     (ap (λ (s : Stations). bench_of s c.in_ok-server-2.server c.exchange_all.new.disk c.exchange_all.new.disks)
-    c.ending-ending.ensures.same) (λ world playing. c.ending-ending.ensures.ending) last))) c.play-2.ensures.drives
+    c.ending-ending.ensures.same) (λ world playing. c.ending-ending.ensures.ending) last))) c.play-2.ensures
