@@ -4,8 +4,7 @@ ghost use Rattle.air_world.specs.Laws.{CutsLaw, ExistenceLaw, NoCutsLaw, PartsLa
 ghost use Rattle.air_world.specs.Laws.{ScheduleLaw, SoundLaw, StoresLaw};
 ghost use Rattle.air_world.specs.StationLaws.{StationLaws};
 
-use crate::attempts;
-use crate::files;
+use crate::{attempts, files};
 use file_store_model::laws::follows_law;
 use ftl0_client::attempt::laws::stands_law;
 use ftl0_client::laws as client;
